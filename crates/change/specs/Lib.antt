@@ -1,0 +1,4 @@
+pub mod Choose
+pub mod Share
+pub mod Enrol
+pub mod Withdraw

@@ -1,0 +1,100 @@
+-- What each call gives back and leaves behind. A refusal changes nothing, but for 10 of the query.
+use Prim.Native.Nat.{ℕ}
+use mathlib.Core.List.{List}
+use lib.IntN.{ℤ}
+use lib.ListN.{length}
+use Rattle.grid.specs.Word.{stepsOf, natOf}
+use Rattle.grid.specs.Site.{Site, placeOf}
+use Rattle.grid.specs.Place.{spotOf}
+use Rattle.table.specs.declared.node.Entry.{Entry}
+use Rattle.table.specs.Words.{Words}
+use Rattle.change.specs.Enrol.{enrolled}
+use Rattle.change.specs.Withdraw.{withdrawn}
+use Rattle.filter.specs.Query.{Record, Counts, recordsFound, answersFound, countsOf, laidOver}
+use Rattle.table.specs.declared.given.Given.{Given}
+use Rattle.table.specs.declared.given.Given.the-variants.{
+  Done,
+  WrongLength,
+  NotWellFormed,
+  NoSuchNumber,
+  OffGrid,
+  NoSuchK,
+  AlreadyEnrolled,
+  Full,
+  NotEnrolled,
+  FewCandidates,
+  FewAnswers,
+  Misshapen,
+  SheetTooLong,
+}
+use Rattle.desk.specs.Refusals.{enrolGives, withdrawGives, queryGives}
+
+-- one thing if the call is granted, another if it is refused
+abbrev pub ifDone : {A : Type 0} → Given → A → A → A
+ifDone Done a b = a
+ifDone WrongLength a b = b
+ifDone NotWellFormed a b = b
+ifDone NoSuchNumber a b = b
+ifDone OffGrid a b = b
+ifDone NoSuchK a b = b
+ifDone AlreadyEnrolled a b = b
+ifDone Full a b = b
+ifDone NotEnrolled a b = b
+ifDone FewCandidates a b = b
+ifDone FewAnswers a b = b
+ifDone Misshapen a b = b
+ifDone SheetTooLong a b = b
+
+-- one thing if the query is refused with 10, another otherwise
+abbrev pub ifFewAnswers : {A : Type 0} → Given → A → A → A
+ifFewAnswers FewAnswers a b = a
+ifFewAnswers Done a b = b
+ifFewAnswers WrongLength a b = b
+ifFewAnswers NotWellFormed a b = b
+ifFewAnswers NoSuchNumber a b = b
+ifFewAnswers OffGrid a b = b
+ifFewAnswers NoSuchK a b = b
+ifFewAnswers AlreadyEnrolled a b = b
+ifFewAnswers Full a b = b
+ifFewAnswers NotEnrolled a b = b
+ifFewAnswers FewCandidates a b = b
+ifFewAnswers Misshapen a b = b
+ifFewAnswers SheetTooLong a b = b
+
+-- a point's entry in a leaf
+abbrev pub pointEntry : ℤ → Site → Entry
+pointEntry n p = record { reference = natOf n; rect = spotOf (placeOf p) }
+
+-- the table after an enrolment
+unfoldable pub afterEnrol : Words → ℤ → Site → Words
+afterEnrol ws n p = ifDone (enrolGives ws n p) (enrolled ws (pointEntry n p)) ws
+
+-- the table after a withdrawal
+unfoldable pub afterWithdraw : Words → ℤ → Words
+afterWithdraw ws n = ifDone (withdrawGives ws n) (withdrawn ws (natOf n)) ws
+
+-- what a query gives back, and the two lists after it
+pub record Queried : Type 0 where
+  pub given : Given
+  pub counts : Counts
+  pub candidates : List Record
+  pub answers : List ℕ
+
+abbrev pub zeroCounts : Counts
+zeroCounts = record { n = 0; m = 0; o = 0 }
+
+-- refusal 10 gives n, with m and o zero
+abbrev pub onlyN : Counts → Counts
+onlyN c = record { n = c .n; m = 0; o = 0 }
+
+unfoldable pub afterQuery : Words → Site → ℤ → List Record → List ℕ → Queried
+afterQuery ws q k candidates answers =
+    let g = queryGives ws q k (length candidates) (length answers) in
+    let counts = countsOf ws q (natOf k) in
+    let records = laidOver (recordsFound ws q (natOf k)) candidates in
+    record {
+      given = g;
+      counts = ifDone g counts (ifFewAnswers g (onlyN counts) zeroCounts);
+      candidates = ifDone g records (ifFewAnswers g records candidates);
+      answers = ifDone g (laidOver (answersFound ws q (natOf k)) answers) answers;
+    }

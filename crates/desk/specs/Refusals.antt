@@ -1,0 +1,91 @@
+-- 01, "Numbers given back": when each line holds, and the order in which each call checks them. Lines 1 and 2, of the table itself, stand with the table.
+use Prim.Native.Nat.{ℕ}
+use mathlib.Core.Bool.{Bool, cond, not, _&&_, _||_}
+use mathlib.Core.List.{List, [], _∷_, map}
+use lib.Dec.{eqb, leb, ltb}
+use lib.IntN.{ℤ, pos, negsuc}
+use lib.ListN.{length}
+use Rattle.grid.specs.Word.{natOf, onGrid}
+use Rattle.grid.specs.Site.{Site}
+use Rattle.order.specs.Lists.{has}
+use Rattle.table.specs.Figures.{MOST, HIGHEST}
+use Rattle.table.specs.Words.{Words, pointsOf}
+use Rattle.table.specs.Stations.{Station, stations}
+use Rattle.table.specs.Rules.{between}
+use Rattle.table.specs.Given.{line, firstOf, wrongLength, malformed}
+use Rattle.filter.specs.Query.{answersFound}
+use Rattle.table.specs.declared.given.Given.{Given}
+use Rattle.table.specs.declared.given.Given.the-variants.{
+  WrongLength,
+  NotWellFormed,
+  NoSuchNumber,
+  OffGrid,
+  NoSuchK,
+  AlreadyEnrolled,
+  Full,
+  NotEnrolled,
+  FewCandidates,
+  FewAnswers,
+}
+
+-- ---- the lines
+
+-- 3: point number outside 1 to 9,999
+abbrev pub noSuchNumber : ℤ → Bool
+noSuchNumber n = not (between 1 HIGHEST (natOf n))
+
+-- 4: a coordinate off the grid
+abbrev pub offGrid : Site → Bool
+offGrid q = not (onGrid (q .x) && onGrid (q .y))
+
+-- 5: k missing or outside 1 to 16
+abbrev pub noSuchK : ℤ → Bool
+noSuchK k = not (between 1 16 (natOf k))
+
+-- the numbers that are enrolled
+abbrev pub numbersOf : Words → List ℕ
+numbersOf ws = map (λ p. p .number) (stations ws)
+
+-- 6: point already enrolled
+abbrev pub isEnrolled : Words → ℤ → Bool
+isEnrolled ws n = has (natOf n) (numbersOf ws)
+
+-- 7: 500 points enrolled
+abbrev pub isFull : Words → Bool
+isFull ws = leb MOST (pointsOf ws)
+
+-- ---- the order
+
+-- enrol checks 1, 2, 3, 4, 6, 7
+unfoldable pub enrolGives : Words → ℤ → Site → Given
+enrolGives ws n p =
+    firstOf
+    (line (wrongLength ws) WrongLength
+    ∷ line (malformed ws) NotWellFormed
+    ∷ line (noSuchNumber n) NoSuchNumber
+    ∷ line (offGrid p) OffGrid
+    ∷ line (isEnrolled ws n) AlreadyEnrolled
+    ∷ line (isFull ws) Full
+    ∷ [])
+
+-- withdraw 1, 2, 3, 8
+unfoldable pub withdrawGives : Words → ℤ → Given
+withdrawGives ws n =
+    firstOf
+    (line (wrongLength ws) WrongLength
+    ∷ line (malformed ws) NotWellFormed
+    ∷ line (noSuchNumber n) NoSuchNumber
+    ∷ line (not (isEnrolled ws n)) NotEnrolled
+    ∷ [])
+
+-- query 1, 2, 4, 5, 9, 10, with room for so many candidates and so many answers
+unfoldable pub queryGives : Words → Site → ℤ → ℕ → ℕ → Given
+queryGives ws q k candidates answers =
+    firstOf
+    (line (wrongLength ws) WrongLength
+    ∷ line (malformed ws) NotWellFormed
+    ∷ line (offGrid q) OffGrid
+    ∷ line (noSuchK k) NoSuchK
+    ∷ line (ltb candidates (pointsOf ws)) FewCandidates
+    ∷ line (ltb answers (length (answersFound ws q (natOf k)))) FewAnswers
+    ∷ [])

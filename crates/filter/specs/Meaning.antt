@@ -1,0 +1,30 @@
+-- 01, "The query's meaning": it speaks of the enrolled stations, and knows nothing of trees.
+use Prim.Native.Nat.{ℕ}
+use mathlib.Core.Bool.{Bool, not, _&&_}
+use mathlib.Core.List.{List, map}
+use lib.Dec.{eqb, ltb}
+use Rattle.grid.specs.Site.{Site, distance²}
+use Rattle.grid.specs.Nearer.{nearer}
+use Rattle.order.specs.Order.{sortBy}
+use Rattle.order.specs.Lists.{count, filter}
+use Rattle.table.specs.Stations.{Station}
+
+-- "other" means another point number
+abbrev pub isOther : Station → Station → Bool
+isOther p c = not (eqb (c .number) (p .number))
+
+-- c is another point, and nearer to p than the place q is
+unfoldable pub nearerOther : Site → Station → Station → Bool
+nearerOther q p c = isOther p c && nearer (distance² (c .site) (p .site)) (distance² q (p .site))
+
+-- p answers the query (q, k): fewer than k other points are nearer to p than q is
+unfoldable pub answersTo : List Station → Site → ℕ → Station → Bool
+answersTo all q k p = ltb (count (nearerOther q p) all) k
+
+-- numbers in rising order
+unfoldable pub rising : List ℕ → List ℕ
+rising ns = sortBy (λ n. n) ns
+
+-- the answer: the numbers of all points that answer, rising
+unfoldable pub answer : List Station → Site → ℕ → List ℕ
+answer all q k = rising (map (λ p. p .number) (filter (answersTo all q k) all))

@@ -1,0 +1,89 @@
+-- The laws of `nearer`, with the half-plane theorem. No other file of the repository, but the proof of `is_nearer`, looks inside `nearer`. Assumes nothing.
+use mathlib.Core.Path.{_≡_, refl}
+use mathlib.Core.Logic.{⊎-elim}
+use mathlib.Core.Bool.{Bool, true, false, _&&_}
+use Prim.Native.Nat.{ℕ, _+_, _≤_}
+use native.Mathlib.Omega.{arith}
+use borrow.Author.Tests.{ltb-true, lt-ltb, le-ltb}
+use Rattle.grid.specs.declared.place.Place.{Place}
+use Rattle.grid.specs.declared.rect.Rect.{Rect}
+use Rattle.grid.specs.Place.{Inside, dist²}
+use Rattle.grid.specs.Nearer.{nearer, nearerTo, cornerNearer, cornersNearer}
+use Rattle.grid.proofs.Axis.{worst}
+
+-- ---- what holds of strictly nearer, and would hold of nearer or equal
+
+-- d′ lies below e′ by at least as much as d below e
+pub near-shift : (d e d′ e′ : ℕ) → d′ + e ≤ d + e′ → nearer d e ≡ true → nearer d′ e′ ≡ true
+unfolding nearer
+near-shift d e d′ e′ h t = lt-ltb d′ e′ (omega (arith, ltb-true d e t))
+
+pub near-less : (d d′ e : ℕ) → d ≤ d′ → nearer d′ e ≡ true → nearer d e ≡ true
+near-less d d′ e h t = near-shift d′ e d e (omega arith) t
+
+pub near-more : (d e e′ : ℕ) → e ≤ e′ → nearer d e ≡ true → nearer d e′ ≡ true
+near-more d e e′ h t = near-shift d e d e′ (omega arith) t
+
+-- the other way round, for what is not nearer
+contrary : (a b : Bool) → (a ≡ true → b ≡ true) → b ≡ false → a ≡ false
+contrary true b f e =
+    let t : b ≡ true = f refl in
+    cc
+contrary false b f e = refl
+
+pub far-shift : (d e d′ e′ : ℕ) → d′ + e ≤ d + e′ → nearer d′ e′ ≡ false → nearer d e ≡ false
+far-shift d e d′ e′ h = contrary (nearer d e) (nearer d′ e′) (near-shift d e d′ e′ h)
+
+pub far-more : (d d′ e : ℕ) → d ≤ d′ → nearer d e ≡ false → nearer d′ e ≡ false
+far-more d d′ e h = far-shift d′ e d e (omega arith)
+
+pub far-less : (d e e′ : ℕ) → e ≤ e′ → nearer d e′ ≡ false → nearer d e ≡ false
+far-less d e e′ h = far-shift d e d e′ (omega arith)
+
+-- ---- what holds of strictly nearer alone: 02 §2 changes it
+
+pub near-self : (d : ℕ) → nearer d d ≡ false
+unfolding nearer
+near-self d = le-ltb d d (omega arith)
+
+-- ---- the half-plane theorem
+
+and-left : (a b : Bool) → (a && b) ≡ true → a ≡ true
+and-left true b e = refl
+and-left false b e = e
+
+and-right : (a b : Bool) → (a && b) ≡ true → b ≡ true
+and-right true b e = e
+and-right false b e =
+    let z : _≡_ {A = ℕ} 0 1 = cc in
+    absurd (omega arith)
+
+-- the four corners, one by one
+record Corners (r : Rect) (c q : Place) : Type 0 where
+  ll : cornerNearer (r .x .low) (r .y .low) c q ≡ true
+  lh : cornerNearer (r .x .low) (r .y .high) c q ≡ true
+  hl : cornerNearer (r .x .high) (r .y .low) c q ≡ true
+  hh : cornerNearer (r .x .high) (r .y .high) c q ≡ true
+
+corners : (r : Rect) (c q : Place) → cornersNearer r c q ≡ true → Corners r c q
+unfolding cornersNearer
+corners r c q t =
+    let lh-on = and-right (cornerNearer (r .x .low) (r .y .low) c q) _ t in
+    let hl-on = and-right (cornerNearer (r .x .low) (r .y .high) c q) _ lh-on in
+    record {
+      ll = and-left _ _ t;
+      lh = and-left _ _ lh-on;
+      hl = and-left _ _ hl-on;
+      hh = and-right (cornerNearer (r .x .high) (r .y .low) c q) _ hl-on;
+    }
+
+-- the corner test speaks for every place of the rectangle: each axis has a worst end, so one corner is worst
+pub half-plane : {p : Place} {r : Rect} (c q : Place) → cornersNearer r c q ≡ true → Inside p r → nearerTo p c q ≡ true
+unfolding nearerTo dist²
+half-plane {p} {r} c q t i =
+    let k = corners r c q t in
+    let on-y = worst (c .y) (q .y) (r .y) (p .y) (i .y) in
+    ⊎-elim
+    (λ u. ⊎-elim (λ v. near-shift _ _ _ _ (omega arith) (k .ll)) (λ v. near-shift _ _ _ _ (omega arith) (k .lh)) on-y)
+    (λ u. ⊎-elim (λ v. near-shift _ _ _ _ (omega arith) (k .hl)) (λ v. near-shift _ _ _ _ (omega arith) (k .hh)) on-y)
+    (worst (c .x) (q .x) (r .x) (p .x) (i .x))

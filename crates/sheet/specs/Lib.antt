@@ -1,0 +1,5 @@
+pub mod Bytes
+pub mod Number
+pub mod Job
+pub mod Output
+pub mod Sheet

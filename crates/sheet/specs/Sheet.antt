@@ -1,0 +1,90 @@
+-- A whole sheet: the program starts with the empty table and lists of 500, and writes one line for each line read.
+use Prim.Native.Nat.{ℕ, suc, _+_}
+use mathlib.Core.Bool.{Bool, cond}
+use mathlib.Core.List.{List, [], _∷_, _++_}
+use lib.Dec.{ltb}
+use lib.IntN.{ℤ, pos}
+use lib.ListN.{length, take, replicate}
+use Rattle.grid.specs.Site.{Site}
+use Rattle.table.specs.Figures.{MOST}
+use Rattle.table.specs.Words.{Words}
+use Rattle.filter.specs.Query.{Record, Counts}
+use Rattle.table.specs.declared.given.Given.{Given}
+use Rattle.table.specs.declared.given.Given.the-variants.{NoSuchK, Misshapen}
+use Rattle.table.specs.Given.{numberGiven}
+use Rattle.desk.specs.Refusals.{enrolGives, withdrawGives}
+use Rattle.desk.specs.Calls.{ifDone, afterEnrol, afterWithdraw, Queried, afterQuery}
+use Rattle.table.specs.Empty.{emptyTable}
+use Rattle.sheet.specs.Bytes.{Bytes, linesOf}
+use Rattle.sheet.specs.Job.{Job, enrol, withdraw, query, missingK, misshapen, jobOf}
+use Rattle.sheet.specs.Output.{letterOf, outputLine}
+
+-- the table and the two lists
+pub record State : Type 0 where
+  pub words : Words
+  pub candidates : List Record
+  pub answers : List ℕ
+
+-- after a job: the state, what is given back, and the further numbers of a granted query
+pub record Ran : Type 0 where
+  pub state : State
+  pub given : Given
+  pub more : List ℕ
+
+-- the same lists, another table
+abbrev pub withWords : State → Words → State
+withWords st ws = record { words = ws; candidates = st .candidates; answers = st .answers }
+
+abbrev pub site : ℤ → ℤ → Site
+site a b = record { x = a; y = b }
+
+-- n, m, o and the n point numbers
+abbrev pub granted : Queried → List ℕ
+granted r = r .counts .n ∷ r .counts .m ∷ r .counts .o ∷ take (r .counts .n) (r .answers)
+
+abbrev pub queried : State → Queried → Ran
+queried st r =
+    record {
+      state = record { words = st .words; candidates = r .candidates; answers = r .answers };
+      given = r .given;
+      more = ifDone (r .given) (granted r) [];
+    }
+
+abbrev pub ranJob : State → Job → Ran
+ranJob st (enrol n a b) = record { state = withWords st (afterEnrol (st .words) n (site a b)); given = enrolGives (st .words) n (site a b); more = [] }
+ranJob st (withdraw n) = record { state = withWords st (afterWithdraw (st .words) n); given = withdrawGives (st .words) n; more = [] }
+ranJob st (query a b k) = queried st (afterQuery (st .words) (site a b) k (st .candidates) (st .answers))
+ranJob st missingK = record { state = st; given = NoSuchK; more = [] }
+ranJob st misshapen = record { state = st; given = Misshapen; more = [] }
+
+unfoldable pub ranLine : State → Bytes → Ran
+ranLine st line = ranJob st (jobOf line)
+
+-- the output line of line `number`
+unfoldable pub lineOutput : ℕ → State → Bytes → Bytes
+lineOutput number st line =
+    let r = ranLine st line in
+    outputLine number (letterOf (jobOf line)) (numberGiven (r .given)) (r .more)
+
+-- all lines in order, the first of them with this number
+abbrev pub linesOutput : ℕ → State → List Bytes → Bytes
+linesOutput number st [] = []
+linesOutput number st (l ∷ ls) = lineOutput number st l ++ linesOutput (number + 1) (ranLine st l .state) ls
+
+abbrev pub LONGEST : ℕ
+LONGEST = 65536
+
+-- the line that a sheet too long prints: 0, ?, 12
+abbrev pub tooLongLine : Bytes
+tooLongLine = outputLine 0 63 12 []
+
+-- the empty table and lists of 500
+abbrev pub blankRecord : Record
+blankRecord = record { number = 0; x = pos 0; y = pos 0; square = 0 }
+
+abbrev pub start : State
+start = record { words = emptyTable; candidates = replicate MOST blankRecord; answers = replicate MOST 0 }
+
+-- what the program prints for a sheet
+unfoldable pub sheetOutput : Bytes → Bytes
+sheetOutput sheet = cond (ltb LONGEST (length sheet)) tooLongLine (linesOutput 1 start (linesOf sheet))

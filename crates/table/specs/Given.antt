@@ -1,0 +1,65 @@
+-- 01, "Numbers given back": each answer's number, and how a call picks its answer.
+use Prim.Native.Nat.{ℕ}
+use mathlib.Core.Bool.{Bool, cond, not}
+use mathlib.Core.List.{List, [], _∷_}
+use lib.Dec.{eqb}
+use lib.ListN.{length}
+use Rattle.table.specs.declared.given.Given.{Given}
+use Rattle.table.specs.declared.given.Given.the-variants.{
+  Done,
+  WrongLength,
+  NotWellFormed,
+  NoSuchNumber,
+  OffGrid,
+  NoSuchK,
+  AlreadyEnrolled,
+  Full,
+  NotEnrolled,
+  FewCandidates,
+  FewAnswers,
+  Misshapen,
+  SheetTooLong,
+}
+use Rattle.table.specs.Figures.{LENGTH}
+use Rattle.table.specs.Words.{Words}
+use Rattle.table.specs.Rules.{wellFormed}
+
+abbrev pub numberGiven : Given → ℕ
+numberGiven Done = 0
+numberGiven WrongLength = 1
+numberGiven NotWellFormed = 2
+numberGiven NoSuchNumber = 3
+numberGiven OffGrid = 4
+numberGiven NoSuchK = 5
+numberGiven AlreadyEnrolled = 6
+numberGiven Full = 7
+numberGiven NotEnrolled = 8
+numberGiven FewCandidates = 9
+numberGiven FewAnswers = 10
+numberGiven Misshapen = 11
+numberGiven SheetTooLong = 12
+
+-- a line of the table of answers: if it holds, what it gives
+pub record Line : Type 0 where
+  pub holds : Bool
+  pub gives : Given
+
+abbrev pub line : Bool → Given → Line
+line b g = record { holds = b; gives = g }
+
+-- each is given exactly when its line holds and no earlier one does; done if none holds
+abbrev pub firstOf : List Line → Given
+firstOf [] = Done
+firstOf (l ∷ ls) = cond (l .holds) (l .gives) (firstOf ls)
+
+-- 1: table not 10,754 words
+abbrev pub wrongLength : Words → Bool
+wrongLength ws = not (eqb (length ws) LENGTH)
+
+-- 2: table not well formed
+abbrev pub malformed : Words → Bool
+malformed ws = not (wellFormed ws)
+
+-- table check 1, 2
+unfoldable pub checkGives : Words → Given
+checkGives ws = firstOf (line (wrongLength ws) WrongLength ∷ line (malformed ws) NotWellFormed ∷ [])

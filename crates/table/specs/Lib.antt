@@ -1,0 +1,9 @@
+pub mod Figures
+pub mod Words
+pub mod Page
+pub mod Slots
+pub mod Rules
+pub mod Stations
+pub mod Empty
+pub mod Tree
+pub mod Given

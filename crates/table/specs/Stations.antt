@@ -1,0 +1,33 @@
+-- The enrolled stations, as a flat list read off the leaf slots, in the order of the slots.
+use Prim.Native.Nat.{ℕ, _+_, _*_}
+use mathlib.Core.Bool.{Bool, cond}
+use mathlib.Core.List.{List, [], map}
+use lib.Dec.{eqb}
+use lib.IntN.{ℤ}
+use Rattle.grid.specs.Word.{natOf}
+use Rattle.grid.specs.Site.{Site}
+use Rattle.order.specs.Order.{upFrom}
+use Rattle.order.specs.Lists.{join}
+use Rattle.table.specs.Figures.{ENTRY}
+use Rattle.table.specs.Words.{Words, word, partAt}
+use Rattle.table.specs.Page.{filled}
+use Rattle.table.specs.Slots.{slots, levelAt}
+
+-- a point: its number and its place
+pub record Station : Type 0 where
+  pub number : ℕ
+  pub site : Site
+
+-- what entry i of a leaf's words says
+abbrev pub stationOf : Words → ℕ → Station
+stationOf part i = record { number = natOf (word part (2 + ENTRY * i)); site = record { x = word part (2 + ENTRY * i + 1); y = word part (2 + ENTRY * i + 2) } }
+
+-- a slot of level 0 is a leaf
+abbrev pub isLeaf : Words → ℕ → Bool
+isLeaf ws s = eqb (levelAt ws s) 0
+
+abbrev pub stationsAt : Words → ℕ → List Station
+stationsAt ws s = cond (isLeaf ws s) (map (stationOf (partAt ws s)) (upFrom 0 (filled (partAt ws s)))) []
+
+unfoldable pub stations : Words → List Station
+stations ws = join (stationsAt ws) slots

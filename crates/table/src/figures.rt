@@ -1,0 +1,38 @@
+// The figures that belong to the table, as constants of its type.
+ghost use mathlib.Core.Path.{_≡_};
+ghost use Rattle.table.specs.Figures.{FAN, LENGTH};
+
+// A table is lent as a slice of words; this type holds no data, only the figures.
+pub struct Table {}
+
+impl Table {
+    // The most entries of a node.
+    pub const FAN: usize = 8;
+
+    // The least entries of a node that is not the root.
+    pub const LEAST: usize = 3;
+
+    // The most points.
+    pub const MOST: usize = 500;
+
+    pub const SLOTS: usize = 256;
+
+    // The words of an entry.
+    pub const ENTRY: usize = 5;
+
+    // The words of a slot: level, number of entries, the entries.
+    pub const WIDTH: usize = 2 + Table::ENTRY * Table::FAN;
+
+    // The words of a table: the root's slot, the number of points, the slots.
+    pub const LENGTH: usize = 2 + Table::WIDTH * Table::SLOTS;
+
+    // The highest point number.
+    pub const HIGHEST: usize = 9999;
+}
+
+// A lent table has exactly so many words.
+pub fn length() -> usize
+    ensures { λ r. ⌜ r ≡ LENGTH ⌝ }
+{
+    Table::LENGTH
+}

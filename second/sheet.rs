@@ -1,0 +1,126 @@
+//! The job sheet of document 01, in the second implementation.
+
+use crate::query::{scan, walk, Found};
+use crate::table::{on_grid, Table};
+
+/// How a query is answered: by the tree and the walk, or by a scan of every pair (m and o then stay 0).
+#[derive(Clone, Copy, PartialEq, Eq)]
+pub enum By {
+    Walk,
+    Scan,
+}
+
+enum Job {
+    Enrol(i32, i32, i32),
+    Withdraw(i32),
+    Query(i32, i32, i32),
+    MissingK,
+    Misshapen,
+}
+
+fn number(f: &[u8]) -> Option<i32> {
+    let (minus, digits) = match f.split_first() {
+        Some((b'-', rest)) => (true, rest),
+        _ => (false, f),
+    };
+    let plain = (1..=7).contains(&digits.len()) && digits.iter().all(u8::is_ascii_digit) && (digits.len() == 1 || digits[0] != b'0');
+    if !plain || (minus && digits[0] == b'0') {
+        return None;
+    }
+    let v = digits.iter().fold(0i32, |v, d| 10 * v + i32::from(d - b'0'));
+    Some(if minus { -v } else { v })
+}
+
+fn job(line: &[u8]) -> Job {
+    let fields: Vec<&[u8]> = line.split(|&b| b == b'\t').collect();
+    let n = |i: usize| number(fields[i]);
+    let parsed = match (fields[0], fields.len()) {
+        (b"E", 4) => (|| Some(Job::Enrol(n(1)?, n(2)?, n(3)?)))(),
+        (b"W", 2) => n(1).map(Job::Withdraw),
+        (b"Q", 3) => n(1).and(n(2)).map(|_| Job::MissingK),
+        (b"Q", 4) if fields[3].is_empty() => n(1).and(n(2)).map(|_| Job::MissingK),
+        (b"Q", 4) => (|| Some(Job::Query(n(1)?, n(2)?, n(3)?)))(),
+        _ => None,
+    };
+    parsed.unwrap_or(Job::Misshapen)
+}
+
+pub fn run(sheet: &[u8], by: By) -> Vec<u8> {
+    if sheet.len() > 65_536 {
+        return b"0\t?\t12\n".to_vec();
+    }
+    let mut out = Vec::new();
+    let mut t = Table::new();
+    let mut lines: Vec<&[u8]> = sheet.split(|&b| b == b'\n').collect();
+    if lines.last().is_some_and(|l| l.is_empty()) {
+        lines.pop();
+    }
+    // For the scan: every holder, kept beside the table.
+    let mut all: Vec<(i32, i64, i64)> = Vec::new();
+    for (i, line) in lines.iter().enumerate() {
+        let (letter, given, found) = match job(line) {
+            Job::Enrol(p, x, y) => {
+                let g = t.enrol(p, x, y);
+                if g == 0 {
+                    all.push((p, i64::from(x), i64::from(y)));
+                }
+                ('E', g, None)
+            }
+            Job::Withdraw(p) => {
+                let g = t.withdraw(p);
+                if g == 0 {
+                    all.retain(|s| s.0 != p);
+                }
+                ('W', g, None)
+            }
+            Job::Query(x, y, k) => {
+                if !on_grid(x) || !on_grid(y) {
+                    ('Q', 4, None)
+                } else if !(1..=16).contains(&k) {
+                    ('Q', 5, None)
+                } else {
+                    let q = [i64::from(x), i64::from(y)];
+                    let f = match by {
+                        By::Walk => walk(&t, q, k as usize),
+                        By::Scan => Found { answers: scan(&all, q, k as usize), ..Found::default() },
+                    };
+                    ('Q', 0, Some(f))
+                }
+            }
+            Job::MissingK => ('Q', 5, None),
+            Job::Misshapen => ('?', 11, None),
+        };
+        put(&mut out, i as i64 + 1);
+        out.push(b'\t');
+        out.push(letter as u8);
+        out.push(b'\t');
+        put(&mut out, i64::from(given));
+        if let Some(f) = found {
+            for v in [f.answers.len(), f.candidates.len(), f.opened] {
+                out.push(b'\t');
+                put(&mut out, v as i64);
+            }
+            for a in f.answers {
+                out.push(b'\t');
+                put(&mut out, i64::from(a));
+            }
+        }
+        out.push(b'\n');
+    }
+    out
+}
+
+fn put(out: &mut Vec<u8>, v: i64) {
+    let mut digits = [0u8; 20];
+    let mut at = digits.len();
+    let mut v = v;
+    loop {
+        at -= 1;
+        digits[at] = b'0' + (v % 10) as u8;
+        v /= 10;
+        if v == 0 {
+            break;
+        }
+    }
+    out.extend_from_slice(&digits[at..]);
+}
