@@ -30,6 +30,10 @@ mag-sub a b = go (decLt a b)
 pub steps-passed : (z : ℤ) {r : ℕ} → SFits w32 z → r ≡ stepsOf (toZ w32 (ofZ w32 z)) → r ≡ stepsOf z
 steps-passed z f e = e ∙ ap stepsOf (toZ-ofZ w32 z f)
 
+-- and of its natural number
+pub natural-passed : (z : ℤ) {r : ℕ} → SFits w32 z → r ≡ natOf (toZ w32 (ofZ w32 z)) → r ≡ natOf z
+natural-passed z f e = e ∙ ap natOf (toZ-ofZ w32 z f)
+
 -- ---- from a word to its steps
 
 sum-wide : (z : ℤ) (k : ℕ) → SFits w32 z → k < 2 ^ 32 → SFits w64 (z +ℤ pos k)

@@ -45,11 +45,17 @@ pub fn steps_at(words: &[i32], at: usize) -> u64
 }
 
 // A level, a number of entries, a point number or a slot. A negative word reads as more than any of these can be.
+pub fn natural(w: i32) -> usize
+    ensures { λ r. ⌜ r ≡ natOf w ⌝ }
+{
+    ((steps(w) + 2147483648) % 4294967296) as usize
+}
+
 pub fn natural_at(words: &[i32], at: usize) -> usize
     requires { ⌜ at < length (now words) ⌝ }
     ensures { λ r. ⌜ r ≡ natOf (getD (now (words .entry)) at (pos 0)) ⌝ }
 {
-    ((steps(words[at]) + 2147483648) % 4294967296) as usize
+    natural(words[at])
 }
 
 pub fn put_steps(words: &mut [i32], at: usize, s: u64)

@@ -1,13 +1,11 @@
 -- `table::node::Node::appended` meets its contract: the store at the number makes the entries one longer. Assumes nothing.
 use borrow.Author.Needs.{needs}
-use Prim.Native.Nat.{_+_, _<_}
+use Prim.Native.Nat.{_<_}
 use mathlib.Core.Path.{refl}
-use mathlib.Core.List.{[], _∷_, _++_}
 use native.Mathlib.Numerals.{add-one}
 use native.Mathlib.Omega.{arith}
-use lib.ListN.{length, set, length-set}
+use lib.ListN.{length, length-set}
 use lib.Seq.{take-suc-set}
-use Rattle.table.specs.Page.{page, held}
 use Rattle.table.proofs.Nodes.{full, shows}
 use Rattle.table.proofs.node.Node.appended.Statement.{statement}
 use Rattle.table.proofs.node.Node.appended.Tie as tie
@@ -26,12 +24,7 @@ returns c =
     let a = c .args .self in
     let f = full a (c .good .0) in
     let h : a .count < length (a .entries) = omega arith in
-    shows (record { level = a .level; count = a .count + 1; entries = set (a .entries) (a .count) (c .args .e) })
-    (page (a .level) (held a ++ c .args .e ∷ []))
-    (simp length-set f)
-    (omega arith)
-    refl
-    (rw (add-one, take-suc-set))
+    shows _ _ (simp length-set f) (omega arith) refl (rw (add-one, take-suc-set))
 
 pub appended-spec : {M : Type 1} → statement M
 appended-spec = tie.close (tie.spec mul-e element-set-from-e add-n returns)

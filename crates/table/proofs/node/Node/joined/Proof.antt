@@ -1,11 +1,10 @@
 -- `table::node::Node::joined` meets its contract. The invariant: the first k entries of the other have been copied behind this node's own. Assumes nothing.
 use Prim.Native.Nat.{_+_, _-_, _≤_}
 use mathlib.Core.Path.{_≡_, refl}
-use mathlib.Core.List.{_++_}
 use native.Mathlib.Omega.{arith}
 use lib.ListN.{getD}
 use lib.Seq.{paste, paste-zero}
-use Rattle.table.specs.Page.{page, held, blankEntry}
+use Rattle.table.specs.Page.{blankEntry}
 use Rattle.table.proofs.Nodes.{full, copy-more, copy-shows}
 use Rattle.table.proofs.node.Node.joined.Statement.{statement}
 use Rattle.table.proofs.node.Node.joined.Tie as tie
@@ -67,9 +66,7 @@ returns c =
     let f = full (a .self) (s .good .0) in
     let g = full (a .t2) (s .good .1 .0) in
     let e : l .k ≡ a .t2 .count = omega arith in
-    copy-shows (l .n) (a .self .entries) (a .self .count) (a .t2 .entries) (l .k) (a .self .count + a .t2 .count)
-    (page (a .self .level) (held (a .self) ++ held (a .t2)))
-    (l .inv .2) f (omega arith) (omega arith) (omega arith) (l .inv .1) (rw e)
+    copy-shows (l .n) (a .self .entries) (a .self .count) (a .t2 .entries) (l .k) _ _ (l .inv .2) f (omega arith) (omega arith) (omega arith) (l .inv .1) (rw e)
 
 pub joined-spec : {M : Type 1} → statement M
 joined-spec =

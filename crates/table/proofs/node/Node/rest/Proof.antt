@@ -4,7 +4,7 @@ use mathlib.Core.Path.{_≡_, refl, ap, _∙_}
 use native.Mathlib.Omega.{arith}
 use lib.ListN.{drop, length-drop}
 use lib.Seq.{paste, paste-zero}
-use Rattle.table.specs.Page.{page, held, blankEntry}
+use Rattle.table.specs.Page.{blankEntry}
 use Rattle.table.proofs.Nodes.{full, move-more, copy-shows, drop-take}
 use Rattle.table.proofs.node.Node.rest.Statement.{statement}
 use Rattle.table.proofs.node.Node.rest.Tie as tie
@@ -69,8 +69,7 @@ returns c =
     let f = full a (s .good .0) in
     let g = length-drop k (a .entries) in
     let e : l .at - k ≡ a .count - k = omega arith in
-    copy-shows (l .n) (a .entries) 0 (drop k (a .entries)) (l .at - k) (a .count - k) (page (a .level) (drop k (held a)))
-    (l .inv .3) f (omega arith) (omega arith) (omega arith) (l .inv .2) (rw (e, drop-take))
+    copy-shows (l .n) (a .entries) 0 (drop k (a .entries)) (l .at - k) _ _ (l .inv .3) f (omega arith) (omega arith) (omega arith) (l .inv .2) (rw (e, drop-take))
 
 pub rest-spec : {M : Type 1} → statement M
 rest-spec =

@@ -4,7 +4,7 @@ use mathlib.Core.Path.{_≡_, refl, ap, _∙_}
 use native.Mathlib.Omega.{arith}
 use lib.ListN.{drop, length-drop}
 use lib.Seq.{paste, paste-zero, take-take}
-use Rattle.table.specs.Page.{page, held, without, blankEntry}
+use Rattle.table.specs.Page.{blankEntry}
 use Rattle.table.proofs.Nodes.{full, move-more, copy-shows, drop-take}
 use Rattle.table.proofs.node.Node.without.Statement.{statement}
 use Rattle.table.proofs.node.Node.without.Tie as tie
@@ -67,10 +67,8 @@ returns c =
     let a = s .args .self in
     let f = full a (s .good .0) in
     let g = length-drop (i + 1) (a .entries) in
-    let h : i ≤ a .count = omega arith in
     let e : l .k - i ≡ a .count - (i + 1) = omega arith in
-    copy-shows (l .n) (a .entries) i (drop (i + 1) (a .entries)) (l .k - i) (a .count - 1) (page (a .level) (without i (held a)))
-    (l .inv .3) f (omega arith) (omega arith) (omega arith) (l .inv .2) (rw (e, drop-take, take-take))
+    copy-shows (l .n) (a .entries) i (drop (i + 1) (a .entries)) (l .k - i) _ _ (l .inv .3) f (omega arith) (omega arith) (omega arith) (l .inv .2) (rw (e, drop-take, take-take i (a .count) (a .entries) (omega arith)))
 
 pub without-spec : {M : Type 1} → statement M
 without-spec =
