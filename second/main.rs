@@ -1,6 +1,8 @@
-//! `second walk < sheet` and `second scan < sheet` answer a job sheet; `second selftest` tries the second program against itself.
+//! `second walk < sheet` and `second scan < sheet` answer a job sheet; `second selftest` tries the second program against itself;
+//! `second tables` and `second tables-expected` make the input of the test program `tables` and what it must print.
 
 mod check;
+mod damage;
 mod query;
 mod random;
 mod sheet;
@@ -14,6 +16,8 @@ fn main() {
         "walk" => sheet::By::Walk,
         "scan" => sheet::By::Scan,
         "selftest" => return selftest(),
+        "tables" => return print!("{}", damage::input()),
+        "tables-expected" => return print!("{}", damage::expected()),
         _ => {
             eprintln!("usage: second walk|scan < sheet, or second selftest");
             std::process::exit(2);

@@ -4,10 +4,11 @@ use mathlib.Core.Bool.{Bool, cond}
 use mathlib.Core.List.{List, [], map}
 use lib.Dec.{eqb}
 use lib.IntN.{ℤ}
-use Rattle.grid.specs.Word.{natOf}
+use Rattle.grid.specs.Word.{natOf, wordOf}
 use Rattle.grid.specs.Site.{Site}
 use Rattle.order.specs.Order.{upFrom}
 use Rattle.order.specs.Lists.{join}
+use Rattle.table.specs.declared.node.Entry.{Entry}
 use Rattle.table.specs.Figures.{ENTRY}
 use Rattle.table.specs.Words.{Words, word, partAt}
 use Rattle.table.specs.Page.{filled}
@@ -21,6 +22,10 @@ pub record Station : Type 0 where
 -- what entry i of a leaf's words says
 abbrev pub stationOf : Words → ℕ → Station
 stationOf part i = record { number = natOf (word part (2 + ENTRY * i)); site = record { x = word part (2 + ENTRY * i + 1); y = word part (2 + ENTRY * i + 2) } }
+
+-- the same, of the entry that was read
+abbrev pub stationOfEntry : Entry → Station
+stationOfEntry e = record { number = e .reference; site = record { x = wordOf (e .rect .x .low); y = wordOf (e .rect .y .low) } }
 
 -- a slot of level 0 is a leaf
 abbrev pub isLeaf : Words → ℕ → Bool
