@@ -1,4 +1,6 @@
 pub mod Choose
 pub mod Share
+pub mod Planted
 pub mod Enrol
 pub mod Withdraw
+pub mod Within

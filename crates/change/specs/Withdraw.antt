@@ -1,18 +1,21 @@
 -- 01, "Withdrawal": a granted withdrawal, word by word.
-use Prim.Native.Nat.{ℕ, zero, suc, _+_, _-_}
-use mathlib.Core.Bool.{Bool, cond, not, _&&_}
+use Prim.Native.Nat.{ℕ, zero, suc, _+_, _-_, _≤_, _<_}
+use mathlib.Core.Path.{_≡_}
+use mathlib.Core.Bool.{Bool, true, cond, not, _&&_}
 use mathlib.Core.List.{List, [], _∷_, _++_, map}
 use lib.Dec.{eqb, leb, ltb}
 use lib.IntN.{ℤ, pos, negsuc}
 use lib.ListN.{length, set}
-use Rattle.order.specs.Lists.{firstPlace, has, some}
+use Rattle.grid.specs.Place.{RectOnGrid}
+use Rattle.order.specs.Lists.{firstPlace, has, some, All, NoDup}
 use Rattle.table.specs.declared.node.Entry.{Entry}
-use Rattle.table.specs.Figures.{FAN, LEAST}
+use Rattle.table.specs.Figures.{FAN, LEAST, SLOTS, LENGTH}
 use Rattle.table.specs.Words.{Words, rootOf, pointsOf}
-use Rattle.table.specs.Page.{page, without}
+use Rattle.table.specs.Page.{Page, page, EntryFits, PageFits, without}
 use Rattle.table.specs.Slots.{levelAt, entriesAt, putPage, freed, entryFor, withRoot, withPoints}
 use Rattle.change.specs.Choose.{entryIn}
 use Rattle.change.specs.Share.{firstShare, otherShare}
+use Rattle.change.specs.Planted.{Planted}
 
 -- the number stands below slot s, of level l
 abbrev pub holds : ℕ → Words → ℕ → ℕ → Bool
@@ -40,9 +43,12 @@ shared ws s l es a joint =
     putPage now s (page (suc l) (tightAt now (tightAt now es a) (a + 1)))
 
 -- the children at places a and a + 1 join: the lower-placed node's entries, then the other's
+abbrev pub jointAt : Words → List Entry → ℕ → List Entry
+jointAt ws es a = entriesAt ws (entryIn es a .reference) ++ entriesAt ws (entryIn es (a + 1) .reference)
+
 unfoldable pub joined : Words → ℕ → ℕ → List Entry → ℕ → Words
 joined ws s l es a =
-    let joint = entriesAt ws (entryIn es a .reference) ++ entriesAt ws (entryIn es (a + 1) .reference) in
+    let joint = jointAt ws es a in
     cond (leb (length joint) FAN) (merged ws s l es a joint) (shared ws s l es a joint)
 
 -- a child at place i joins the next sibling by place, or the previous one if it is last
@@ -83,3 +89,40 @@ unfoldable pub withdrawn : Words → ℕ → Words
 withdrawn ws n =
     let s = rootOf ws in
     withPoints (lowered (removed (levelAt ws s) ws s n) s) (pointsOf ws - 1)
+
+-- ---- what the functions require
+
+-- a number below a slot
+pub record Removable (l : ℕ) (ws : Words) (s n : ℕ) : Type 0 where
+  pub planted : Planted l ws s
+  pub found : holds l ws s n ≡ true
+
+-- a child of level l that can be read and written back, its boxes on the grid
+pub record Child (ws : Words) (l : ℕ) (e : Entry) : Type 0 where
+  pub inside : e .reference < SLOTS
+  pub level : levelAt ws (e .reference) ≡ l
+  pub fits : All EntryFits (entriesAt ws (e .reference))
+  pub grid : All (λ x. RectOnGrid (x .rect)) (entriesAt ws (e .reference))
+
+-- a page above the leaves, with two entries at least, that is to stand in slot s; it has a place i
+pub record Mendable (ws : Words) (s : ℕ) (p : Page) (i : ℕ) : Type 0 where
+  pub long : length ws ≡ LENGTH
+  pub inside : s < SLOTS
+  pub above : 0 < p .level
+  pub fits : PageFits p
+  pub place : i < length (p .entries)
+  pub two : 2 ≤ length (p .entries)
+  pub children : All (Child ws (p .level - 1)) (p .entries)
+  pub apart : NoDup (map (λ e. e .reference) (p .entries))
+
+-- the children at places a and a + 1 have ten entries at most
+pub record Joinable (ws : Words) (s : ℕ) (p : Page) (a : ℕ) : Type 0 where
+  pub mendable : Mendable ws s p a
+  pub next : a + 1 < length (p .entries)
+  pub most : length (jointAt ws (p .entries) a) ≤ 10
+
+-- the root after a removal: if it is to give way, then to a slot
+pub record Lowerable (ws : Words) (s : ℕ) : Type 0 where
+  pub long : length ws ≡ LENGTH
+  pub inside : s < SLOTS
+  pub child : 0 < levelAt ws s → length (entriesAt ws s) ≡ 1 → entryIn (entriesAt ws s) 0 .reference < SLOTS

@@ -30,6 +30,9 @@ use Rattle.table.specs.declared.given.Given.the-variants.{
 
 -- ---- the lines
 
+abbrev pub site : ℤ → ℤ → Site
+site a b = record { x = a; y = b }
+
 -- 3: point number outside 1 to 9,999
 abbrev pub noSuchNumber : ℤ → Bool
 noSuchNumber n = not (between 1 HIGHEST (natOf n))

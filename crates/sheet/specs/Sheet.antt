@@ -5,14 +5,13 @@ use mathlib.Core.List.{List, [], _∷_, _++_}
 use lib.Dec.{ltb}
 use lib.IntN.{ℤ, pos}
 use lib.ListN.{length, take, replicate}
-use Rattle.grid.specs.Site.{Site}
 use Rattle.table.specs.Figures.{MOST}
 use Rattle.table.specs.Words.{Words}
 use Rattle.filter.specs.Query.{Record, Counts}
 use Rattle.table.specs.declared.given.Given.{Given}
 use Rattle.table.specs.declared.given.Given.the-variants.{NoSuchK, Misshapen}
 use Rattle.table.specs.Given.{numberGiven}
-use Rattle.desk.specs.Refusals.{enrolGives, withdrawGives}
+use Rattle.desk.specs.Refusals.{site, enrolGives, withdrawGives}
 use Rattle.desk.specs.Calls.{ifDone, afterEnrol, afterWithdraw, Queried, afterQuery}
 use Rattle.table.specs.Empty.{emptyTable}
 use Rattle.sheet.specs.Bytes.{Bytes, linesOf}
@@ -34,9 +33,6 @@ pub record Ran : Type 0 where
 -- the same lists, another table
 abbrev pub withWords : State → Words → State
 withWords st ws = record { words = ws; candidates = st .candidates; answers = st .answers }
-
-abbrev pub site : ℤ → ℤ → Site
-site a b = record { x = a; y = b }
 
 -- n, m, o and the n point numbers
 abbrev pub granted : Queried → List ℕ

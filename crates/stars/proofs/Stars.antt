@@ -25,8 +25,9 @@ use Rattle.change.specs.Enrol.{settled, enrolled}
 use Rattle.filter.specs.Meaning.{nearerOther, answersTo, rising, answer}
 use Rattle.filter.specs.Walk.{Found, nearestFirst, pointHidden, boxHidden}
 use Rattle.filter.specs.Query.{stationIn, found, answersFound}
+use Rattle.desk.specs.Refusals.{site}
 use Rattle.desk.specs.Calls.{pointEntry}
-use Rattle.desk.specs.Stars.{Stars, referred, enrolledUpTo, station, site, at}
+use Rattle.stars.specs.Stars.{Stars, referred, enrolledUpTo, station, at}
 
 -- the nine stations
 abbrev row : List Station

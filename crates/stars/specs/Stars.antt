@@ -18,10 +18,8 @@ use Rattle.filter.specs.Meaning.{answer}
 use Rattle.filter.specs.Walk.{boxHidden}
 use Rattle.filter.specs.Query.{found, answersFound}
 use Rattle.table.specs.Empty.{emptyTable}
+use Rattle.desk.specs.Refusals.{site}
 use Rattle.desk.specs.Calls.{pointEntry}
-
-abbrev pub site : ℤ → ℤ → Site
-site a b = record { x = a; y = b }
 
 abbrev pub station : ℕ → ℤ → ℤ → Station
 station n a b = record { number = n; site = site a b }

@@ -1,0 +1,16 @@
+pub mod Shares
+pub mod Chosen
+pub mod WithdrawSearch
+pub mod WithdrawItems
+pub mod WithdrawFrame
+pub mod WithdrawFlat
+pub mod WithdrawJoin
+pub mod WithdrawCut
+pub mod WithdrawPlanted
+pub mod Withdrawn
+pub mod EnrolFree
+pub mod EnrolCounts
+pub mod EnrolNode
+pub mod EnrolTree
+pub mod EnrolRoot
+pub mod Enrolled

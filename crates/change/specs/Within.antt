@@ -1,0 +1,58 @@
+-- What the inner functions of an enrolment are given to work with, and what an insertion hands up.
+use Prim.Native.Nat.{ℕ, suc, _≤_, _<_, _^_}
+use mathlib.Core.Path.{_≡_}
+use mathlib.Core.Bool.{true}
+use mathlib.Core.List.{List, [], _∷_}
+use lib.ListN.{length}
+use Rattle.grid.specs.Place.{RectOnGrid}
+use Rattle.order.specs.Lists.{count, All, NoDup}
+use Rattle.table.specs.declared.node.Entry.{Entry}
+use Rattle.table.specs.declared.node.Node.{Node}
+use Rattle.table.specs.Figures.{SLOTS, LENGTH}
+use Rattle.table.specs.Words.{Words}
+use Rattle.table.specs.Page.{held, EntryFits}
+use Rattle.table.specs.Slots.{slots, isFree, lowestFree}
+use Rattle.table.specs.Rules.{isPoint}
+use Rattle.table.specs.Tree.{Tree, topOf, slotsOf, leavesOf, Filled, Stored}
+use Rattle.change.specs.declared.enrol.Up.{Up}
+use Rattle.change.specs.declared.enrol.Up.the-variants.{Same, New}
+use Rattle.change.specs.Enrol.{Grown}
+
+-- the entry of a new node, if one was made
+abbrev pub newOf : Up → List Entry
+newOf Same = []
+newOf (New e) = e ∷ []
+
+abbrev pub grew : Words → Up → Grown
+grew ws up = record { words = ws; new = newOf up }
+
+-- up to nine entries, each of which a slot can hold, on the grid; and a slot is free
+pub record MaySettle (ws : Words) (s : ℕ) (n : Node) : Type 0 where
+  pub long : length ws ≡ LENGTH
+  pub low : s < SLOTS
+  pub level : n .level < 2 ^ 31
+  pub nine : n .count ≤ 9
+  pub fits : All EntryFits (held n)
+  pub grid : All (λ e. RectOnGrid (e .rect)) (held n)
+  pub room : lowestFree ws < SLOTS
+
+-- how many slots are free
+unfoldable pub freeCount : Words → ℕ
+freeCount ws = count (isFree ws) slots
+
+-- The node in slot s is the top of a tree of level l that may stand in a sound tree, and a slot is free for a new node on each of its levels.
+pub record MayInsert (l : ℕ) (ws : Words) (s : ℕ) (e : Entry) : Type 0 where
+  pub tree : Tree l
+  pub least : ℕ
+  pub top : topOf l tree ≡ s
+  pub some : 1 ≤ least
+  pub four : least ≤ 4
+  pub low : l ≤ 5
+  pub fill : Filled least l tree
+  pub apart : NoDup (slotsOf l tree)
+  pub inside : All (λ o. o < SLOTS) (slotsOf l tree)
+  pub points : All (λ p. isPoint p ≡ true) (leavesOf l tree)
+  pub stored : Stored l ws tree
+  pub long : length ws ≡ LENGTH
+  pub room : suc l ≤ freeCount ws
+  pub point : isPoint e ≡ true

@@ -1,0 +1,6 @@
+use table::node::Entry;
+
+pub enum Up {
+    Same,
+    New(Entry),
+}

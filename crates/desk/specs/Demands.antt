@@ -1,0 +1,91 @@
+-- The three demands of the mission, as statements about the calls of `Calls.antt`.
+use Prim.Native.Nat.{ℕ, _≤_, _<_}
+use mathlib.Core.Path.{_≡_}
+use mathlib.Core.Bool.{Bool, true, false, not}
+use mathlib.Core.List.{List, [], _∷_}
+use lib.Dec.{eqb}
+use lib.IntN.{ℤ}
+use lib.ListN.{length}
+use Rattle.grid.specs.Word.{IsWord, natOf}
+use Rattle.grid.specs.Site.{Site}
+use Rattle.order.specs.Order.{Perm}
+use Rattle.order.specs.Lists.{count, filter, All}
+use Rattle.table.specs.declared.given.Given.{Given}
+use Rattle.table.specs.declared.given.Given.the-variants.{Done, Full, FewAnswers}
+use Rattle.table.specs.Figures.{MOST, SLOTS, LENGTH}
+use Rattle.table.specs.Words.{Words}
+use Rattle.table.specs.Slots.{slots, isFree, levelAt}
+use Rattle.table.specs.Stations.{Station, stations}
+use Rattle.table.specs.Rules.{wellFormed}
+use Rattle.filter.specs.Meaning.{answer}
+use Rattle.filter.specs.Query.{Record, answersFound, countsOf}
+use Rattle.desk.specs.Refusals.{enrolGives, withdrawGives, queryGives}
+use Rattle.desk.specs.Calls.{ifDone, afterEnrol, afterWithdraw, Queried, afterQuery, zeroCounts, onlyN}
+
+-- a lent table that the check passes
+pub record Passing (ws : Words) : Type 0 where
+  pub long : length ws ≡ LENGTH
+  pub words : All IsWord ws
+  pub rules : wellFormed ws ≡ true
+
+-- ---- demand 1: a refusal changes nothing, but for 10 of the query
+
+pub record Demand1 : Type 0 where
+  pub enrol : (ws : Words) (n : ℤ) (p : Site) → (enrolGives ws n p ≡ Done → ⊥) → afterEnrol ws n p ≡ ws
+  pub withdraw : (ws : Words) (n : ℤ) → (withdrawGives ws n ≡ Done → ⊥) → afterWithdraw ws n ≡ ws
+  -- zero counts, and both lists as they were
+  pub query : (ws : Words) (q : Site) (k : ℤ) (cs : List Record) (out : List ℕ)
+      → (afterQuery ws q k cs out .given ≡ Done → ⊥) → (afterQuery ws q k cs out .given ≡ FewAnswers → ⊥)
+      → (afterQuery ws q k cs out .counts ≡ zeroCounts) × (afterQuery ws q k cs out .candidates ≡ cs) × (afterQuery ws q k cs out .answers ≡ out)
+  -- 10 gives n, and changes the candidate list alone
+  pub short : (ws : Words) (q : Site) (k : ℤ) (cs : List Record) (out : List ℕ) → afterQuery ws q k cs out .given ≡ FewAnswers
+      → (afterQuery ws q k cs out .counts ≡ onlyN (countsOf ws q (natOf k))) × (afterQuery ws q k cs out .answers ≡ out)
+
+-- ---- demand 2: a granted query lists, rising, exactly the stations that have fewer than k others nearer than the place
+
+abbrev pub Demand2 : Type 0
+Demand2 = (ws : Words) (q : Site) (k : ℤ) (room places : ℕ) → queryGives ws q k room places ≡ Done
+    → All IsWord ws → answersFound ws q (natOf k) ≡ answer (stations ws) q (natOf k)
+
+-- ---- demand 3: what the table is and holds after any calls
+
+pub data Call : Type 0 where
+  enrol : ℤ → Site → Call
+  withdraw : ℤ → Call
+  -- a check or a query
+  look : Call
+
+abbrev pub tableAfter : Words → Call → Words
+tableAfter ws (enrol n p) = afterEnrol ws n p
+tableAfter ws (withdraw n) = afterWithdraw ws n
+tableAfter ws look = ws
+
+abbrev pub tableAfterAll : Words → List Call → Words
+tableAfterAll ws [] = ws
+tableAfterAll ws (c ∷ cs) = tableAfterAll (tableAfter ws c) cs
+
+abbrev pub without : ℕ → List Station → List Station
+without n ps = filter (λ p. not (eqb (p .number) n)) ps
+
+-- the points that a call says, out of those before it
+abbrev pub pointsAfter : Words → Call → List Station → List Station
+pointsAfter ws (enrol n p) ps = ifDone (enrolGives ws n p) (record { number = natOf n; site = p } ∷ ps) ps
+pointsAfter ws (withdraw n) ps = ifDone (withdrawGives ws n) (without (natOf n) ps) ps
+pointsAfter ws look ps = ps
+
+abbrev pub pointsAfterAll : Words → List Call → List Station → List Station
+pointsAfterAll ws [] ps = ps
+pointsAfterAll ws (c ∷ cs) ps = pointsAfterAll (tableAfter ws c) cs (pointsAfter ws c ps)
+
+pub record Demand3 (ws : Words) (calls : List Call) : Type 0 where
+  pub sound : Passing (tableAfterAll ws calls)
+  -- exactly the points that the start and the granted calls say
+  pub points : Perm (stations (tableAfterAll ws calls)) (pointsAfterAll ws calls (stations ws))
+  -- at most 248 nodes on 6 levels
+  pub nodes : count (λ s. not (isFree (tableAfterAll ws calls) s)) slots ≤ 248
+  pub levels : (s : ℕ) → s < SLOTS → isFree (tableAfterAll ws calls) s ≡ false → levelAt (tableAfterAll ws calls) s ≤ 5
+  -- refused for room only at 500
+  pub room : (n : ℤ) (p : Site) → enrolGives (tableAfterAll ws calls) n p ≡ Full → length (stations (tableAfterAll ws calls)) ≡ MOST
+
+abbrev pub AnyCalls : Type 0
+AnyCalls = (ws : Words) → Passing ws → (calls : List Call) → Demand3 ws calls

@@ -1,0 +1,207 @@
+-- The answers of the walk are the stations that answer: a point that is no candidate has k candidates nearer, and these are others. Assumes nothing.
+use Prim.Native.Nat.{ℕ, zero, suc, _+_, _-_, _≤_, _<_, _^_}
+use native.Mathlib.Omega.{arith}
+use mathlib.Core.Path.{_≡_, refl, sym, ap, subst, _∙_}
+use mathlib.Core.Bool.{Bool, true, false, cond, not, _&&_}
+use mathlib.Core.List.{List, [], _∷_, _++_, map, map-append, List·Memᴰ·head, List·Memᴰ·tail, List·Memᴰ·not-nil, Memᴰ·map, Memᴰ·of-map, append-nil, Memᴰ·cast, Memᴰ·append-left, Memᴰ·append-right}
+use lib.Dec.{eqb}
+use lib.IntN.{ℤ, pos, negsuc}
+use lib.ListN.{length, length-append, length-map}
+use borrow.Author.Tests.{leb-true, eqb-true, ne-eqb, le-ltb}
+use Rattle.grid.specs.Word.{natOf}
+use Rattle.grid.specs.declared.place.Place.{Place}
+use Rattle.grid.specs.declared.span.Span.{Span}
+use Rattle.grid.specs.Axis.{OnGrid}
+use Rattle.grid.specs.Place.{PlaceOnGrid, Inside, dist²}
+use Rattle.grid.specs.Site.{Site, placeOf, distance²}
+use Rattle.grid.specs.Nearer.{nearer, nearerTo}
+use Rattle.grid.proofs.Words.{word-is, steps-word}
+use Rattle.grid.proofs.Rects.{place-ext}
+use Rattle.grid.proofs.Site.{SiteWords, SiteOnGrid, site-words, dist-sites}
+use Rattle.order.specs.Lists.{count, one, filter, every, join, Mem, All, NoDup}
+use Rattle.order.specs.Order.{Perm, ptrans}
+use Rattle.order.proofs.Perm.{psym, prefl, perm-map, perm-length, perm-mem}
+use Rattle.order.proofs.Lists.{count-append, perm-count, all-mem, mem-all, all-perm, perm-nodup}
+use Rattle.table.specs.declared.node.Entry.{Entry}
+use Rattle.table.specs.Words.{Words, word, isMinusOne, pointsOf, partAt}
+use Rattle.table.specs.Page.{pageOf}
+use Rattle.table.specs.Slots.{slots, isFree, pageAt}
+use Rattle.table.specs.Stations.{Station, stationsAt, stations}
+use Rattle.table.specs.Rules.{isPoint, isEmpty}
+use Rattle.table.specs.Tree.{Tree, topOf, slotsOf, leavesOf, Sound, Holds}
+use Rattle.filter.specs.Meaning.{isOther, nearerOther, answersTo, rising, answer}
+use Rattle.filter.specs.Walk.{Found, spotIn, walk}
+use Rattle.filter.specs.Query.{nothing, found, stationIn, answersFound}
+use Rattle.filter.proofs.Rising.{filter-append, filter-none, perm-filter, rising-same}
+use Rattle.filter.proofs.Steps.{Hidden, Step, step-few, step-all, step-walk}
+use Rattle.audit.proofs.Tests.{and-left, and-right}
+use Rattle.audit.proofs.Joined.{all-then, nodup-left, nodup-apart}
+use Rattle.audit.proofs.Reading.{Point, point, good-root, stored-level}
+
+-- ---- a leaf's entry as a station
+
+-- its place in steps is that of its station
+point-site : (e : Entry) → Point e → SiteWords (stationIn e .site) × (placeOf (stationIn e .site) ≡ spotIn e)
+point-site e p =
+    let bx : e .rect .x .low < 2 ^ 32 = omega (arith, p .x .grid) in
+    let by : e .rect .y .low < 2 ^ 32 = omega (arith, p .y .grid) in
+    (record { x = word-is _ bx; y = word-is _ by }, place-ext (steps-word _ bx) (steps-word _ by))
+
+-- nearer in steps is nearer on the ground
+nearer-site : (q : Site) → SiteOnGrid q → (c e : Entry) → Point c → Point e
+    → nearerTo (spotIn e) (spotIn c) (placeOf q) ≡ nearer (distance² (stationIn c .site) (stationIn e .site)) (distance² q (stationIn e .site))
+unfolding nearerTo
+nearer-site q g c e pc pe =
+    let sc = point-site c pc in
+    let se = point-site e pe in
+    rw (← (se .1), ← (sc .1), dist-sites (sc .0) (se .0), dist-sites (site-words g) (se .0))
+
+-- ---- hidden points do not answer
+
+one-into : (a b : Bool) → (a ≡ true → b ≡ true) → one a ≤ one b
+one-into true b h = rw (h refl) (omega arith)
+one-into false b h = omega arith
+
+count-into : {A B : Type 0} (P : A → Bool) (Q : B → Bool) (f : A → B) (xs : List A) → All (λ x. P x ≡ true → Q (f x) ≡ true) xs
+    → count P xs ≤ count Q (map f xs)
+count-into P Q f [] h = omega arith
+count-into P Q f (x ∷ xs) h = omega (arith, one-into (P x) (Q (f x)) (h .0), count-into P Q f xs (h .1))
+
+abbrev pub numberOf : Entry → ℕ
+numberOf e = e .reference
+
+module _ (q : Site) (g : SiteOnGrid q) (k : ℕ) where
+  -- candidates of other numbers that are nearer in steps are nearer others
+  other-nearer : (c e : Entry) → Point c → Point e → (c .reference ≡ e .reference → ⊥)
+      → nearerTo (spotIn e) (spotIn c) (placeOf q) ≡ true → nearerOther q (stationIn e) (stationIn c) ≡ true
+  unfolding nearerOther
+  other-nearer c e pc pe ne h = rw (ne-eqb (c .reference) (e .reference) ne) (sym (nearer-site q g c e pc pe) ∙ h)
+
+  hidden-out : (all : List Station) (b rest : List Entry) → Perm all (map stationIn (b ++ rest)) → All Point (b ++ rest)
+      → NoDup (map numberOf (b ++ rest)) → (e : Entry) → Mem e rest → Hidden (placeOf q) k b e
+      → answersTo all q k (stationIn e) ≡ false
+  unfolding answersTo
+  hidden-out all b rest p ps d e m h =
+      let near = nearerOther q (stationIn e) in
+      let pe : Point e = mem-all Point (b ++ rest) ps (Memᴰ·append-right b m) in
+      let apart : (c : Entry) → Mem c b → c .reference ≡ e .reference → ⊥ = λ c mc s.
+      nodup-apart (map numberOf b) (map numberOf rest) (rw (map-append numberOf b rest) at d) (Memᴰ·map numberOf mc) (Memᴰ·cast s (Memᴰ·map numberOf m)) in
+      let least : count (λ c. nearerTo (spotIn e) (spotIn c) (placeOf q)) b ≤ count near (map stationIn b) =
+      count-into (λ c. nearerTo (spotIn e) (spotIn c) (placeOf q)) near stationIn b
+      (all-mem (λ c. nearerTo (spotIn e) (spotIn c) (placeOf q) ≡ true → near (stationIn c) ≡ true) b
+      (λ c mc. other-nearer c e (mem-all Point (b ++ rest) ps (Memᴰ·append-left rest mc)) pe (apart c mc))) in
+      le-ltb (count near all) k (omega (arith, perm-count p near, ap (count near) (map-append stationIn b rest), count-append near (map stationIn b) (map stationIn rest)))
+
+-- ---- a walk from nothing over all points
+
+module _ (q : Site) (g : SiteOnGrid q) (k : ℕ) (all : List Station) (S : List Entry) (T : List ℕ) (b : Found)
+    (f : Step (placeOf q) k S T nothing b) (flat : Perm all (map stationIn S)) (ps : All Point S) (d : NoDup (map numberOf S)) where
+  -- the candidates, and behind them the points that are none
+  split-found : Perm (b .candidates ++ f .rest) S
+  split-found = rw (f .grown) (f .split)
+
+  -- the stations are those of the candidates, and behind them those of the others
+  flat-found : Perm all (map stationIn (b .candidates ++ f .rest))
+  flat-found = ptrans flat (perm-map stationIn (psym split-found))
+
+  others-out : filter (answersTo all q k) (map stationIn (f .rest)) ≡ []
+  others-out =
+      let P : Station → Type 0 = λ p. answersTo all q k p ≡ false in
+      filter-none (answersTo all q k) (map stationIn (f .rest))
+      (all-mem P (map stationIn (f .rest))
+      (λ p m. let o = Memᴰ·of-map stationIn (f .rest) m in
+      subst P (o .2)
+      (hidden-out q g k all (b .candidates) (f .rest) flat-found
+      (all-perm Point split-found ps)
+      (perm-nodup (perm-map numberOf (psym split-found)) d)
+      (o .0) (o .1) (mem-all (Hidden (placeOf q) k (b .candidates)) (f .rest) (f .hidden) (o .1)))))
+
+  kept : Perm (filter (answersTo all q k) all) (filter (answersTo all q k) (map stationIn (b .candidates)))
+  kept =
+      let A = answersTo all q k in
+      subst (λ l. Perm (filter A all) l)
+      (ap (filter A) (map-append stationIn (b .candidates) (f .rest))
+      ∙ filter-append A (map stationIn (b .candidates)) (map stationIn (f .rest))
+      ∙ ap (λ l. filter A (map stationIn (b .candidates)) ++ l) others-out
+      ∙ append-nil (filter A (map stationIn (b .candidates))))
+      (perm-filter A flat-found)
+
+  pub answers-all : rising (map (λ p. p .number) (filter (answersTo all q k) (map stationIn (b .candidates)))) ≡ answer all q k
+  unfolding answer
+  answers-all = rising-same (perm-map (λ (p : Station). p .number) (psym kept))
+
+-- ---- a table that holds a tree
+
+not-empty : (ws : Words) (n : ℕ) → word ws 0 ≡ pos n → isEmpty ws ≡ false
+unfolding isEmpty
+not-empty ws n e = rw e
+
+module _ (ws : Words) (l : ℕ) (t : Tree l) (h : Holds ws l t) (s : Sound l t) (q : Site) (g : SiteOnGrid q) (k : ℕ) where
+  pub found-walk : found ws q k ≡ walk (placeOf q) k l ws (topOf l t) nothing
+  unfolding found
+  found-walk =
+      rw (not-empty ws (topOf l t) (h .root)) (rw (h .root) (rw (stored-level ws {t = t} (good-root s) (h .stored))))
+
+  pub found-step : Step (placeOf q) k (leavesOf l t) (slotsOf l t) nothing (found ws q k)
+  found-step = rw found-walk (step-walk (placeOf q) k ws l t (good-root s) (h .stored) nothing)
+
+  points : All Point (leavesOf l t)
+  points = all-then (λ e. isPoint e ≡ true) Point point (leavesOf l t) (s .points)
+
+  module _ (flat : Perm (stations ws) (map stationIn (leavesOf l t))) where
+    -- demand 2: the answers of the walk are the answer
+    pub answers-right : answersFound ws q k ≡ answer (stations ws) q k
+    unfolding answersFound
+    answers-right = answers-all q g k (stations ws) (leavesOf l t) (slotsOf l t) (found ws q k) found-step flat points (s .once)
+
+  -- no more candidates than points
+  pub candidates-few : length (found ws q k .candidates) ≤ length (leavesOf l t)
+  candidates-few = omega (arith, step-few found-step)
+
+  -- each is a point
+  pub candidates-points : All Point (found ws q k .candidates)
+  candidates-points = step-all found-step Point tt points
+
+  -- no number stands twice
+  pub candidates-once : NoDup (map numberOf (found ws q k .candidates))
+  candidates-once =
+      let b = found ws q k .candidates in
+      let r = found-step .rest in
+      let p : Perm (b ++ r) (leavesOf l t) = rw (found-step .grown) (found-step .split) in
+      nodup-left (map numberOf b) (map numberOf r) (rw (map-append numberOf b r) at (perm-nodup (perm-map numberOf (psym p)) (s .once)))
+
+  -- no more nodes are opened than there are
+  pub opened-few : found ws q k .opened ≤ length (slotsOf l t)
+  opened-few = omega (arith, found-step .opened)
+
+-- ---- the empty table
+
+none-not-leaf : (z : ℤ) → isMinusOne z ≡ true → eqb (natOf z) 0 ≡ false
+none-not-leaf (pos n) e = let z : _≡_ {A = ℕ} 0 1 = cc in absurd (omega arith)
+none-not-leaf (negsuc n) e = ne-eqb (4294967295 - n) 0 (λ f. omega (arith, eqb-true n 0 e))
+
+-- no stations in free slots
+free-stations : (ws : Words) (s : ℕ) → isFree ws s ≡ true → stationsAt ws s ≡ []
+unfolding isFree pageAt pageOf
+free-stations ws s e = rw (none-not-leaf (word (partAt ws s) 0) e)
+
+all-free : (ws : Words) (ns : List ℕ) → every (isFree ws) ns ≡ true → join (stationsAt ws) ns ≡ []
+all-free ws [] e = refl
+all-free ws (n ∷ ns) e = rw (free-stations ws n (and-left _ _ e)) (all-free ws ns (and-right (isFree ws n) _ e))
+
+stations-empty : (ws : Words) → isEmpty ws ≡ true → stations ws ≡ []
+unfolding stations isEmpty
+stations-empty ws e = all-free ws slots (and-right (eqb (pointsOf ws) 0) _ (and-right (isMinusOne (word ws 0)) _ e))
+
+module _ (ws : Words) (e : isEmpty ws ≡ true) (q : Site) (k : ℕ) where
+  pub found-empty : found ws q k ≡ nothing
+  unfolding found
+  found-empty = rw e
+
+  pub answers-empty : answersFound ws q k ≡ []
+  unfolding answersFound rising
+  answers-empty = rw found-empty
+
+  pub answer-empty : answer (stations ws) q k ≡ []
+  unfolding answer rising
+  answer-empty = rw (stations-empty ws e)

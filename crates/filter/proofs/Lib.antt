@@ -1,0 +1,4 @@
+pub mod Rising
+pub mod Steps
+pub mod Answers
+pub mod Meaning

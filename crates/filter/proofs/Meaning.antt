@@ -1,0 +1,92 @@
+-- Two small truths of the meaning: with k or fewer points enrolled every point answers, since no point is its own other; and a point at the place itself always answers, since nothing is nearer than the distance 0. Assumes nothing.
+use Prim.Native.Nat.{ℕ, _+_, _*_, _≤_, _<_}
+use native.Mathlib.Omega.{arith}
+use mathlib.Core.Path.{_≡_, refl, sym, ap, _∙_}
+use mathlib.Core.Logic.{⊎-elim}
+use mathlib.Core.Bool.{Bool, true, false, not, _&&_}
+use mathlib.Core.List.{List, [], _∷_, map, List·Memᴰ·not-nil, List·Memᴰ·cases-cons}
+use lib.Dec.{eqb}
+use lib.IntN.{ℤ, natAbs, +ℤ-invr}
+use lib.ListN.{length}
+use borrow.Author.Tests.{lt-ltb, eq-eqb}
+use Rattle.grid.specs.Site.{Site, squareApart, distance²}
+use Rattle.grid.specs.Nearer.{nearer}
+use Rattle.grid.proofs.Nearer.{far-more, near-self}
+use Rattle.order.specs.Lists.{one, count, filter, Mem, All}
+use Rattle.order.proofs.Lists.{all-mem}
+use Rattle.table.specs.Stations.{Station}
+use Rattle.filter.specs.Meaning.{nearerOther, answersTo, rising, answer}
+
+-- ---- lists
+
+one-most : (b : Bool) → one b ≤ 1
+one-most true = omega arith
+one-most false = omega arith
+
+count-most : {A : Type 0} (P : A → Bool) (xs : List A) → count P xs ≤ length xs
+count-most P [] = omega arith
+count-most P (x ∷ xs) = omega (arith, one-most (P x), count-most P xs)
+
+-- one that does not pass is not counted
+count-less : {A : Type 0} (P : A → Bool) {a : A} (xs : List A) → Mem a xs → P a ≡ false → count P xs < length xs
+count-less P [] m e = absurd (List·Memᴰ·not-nil m)
+count-less P (x ∷ xs) m e =
+    ⊎-elim (λ h. omega (arith, ap one (ap P (sym h) ∙ e), count-most P xs))
+    (λ h. omega (arith, one-most (P x), count-less P xs h e)) (List·Memᴰ·cases-cons m)
+
+count-none : {A : Type 0} (P : A → Bool) → ((x : A) → P x ≡ false) → (xs : List A) → count P xs ≡ 0
+count-none P h [] = refl
+count-none P h (x ∷ xs) = omega (arith, ap one (h x), count-none P h xs)
+
+pub filter-all : {A : Type 0} (P : A → Bool) (xs : List A) → All (λ x. P x ≡ true) xs → filter P xs ≡ xs
+filter-all P [] h = refl
+filter-all P (x ∷ xs) h = rw (h .0) (ap (λ l. x ∷ l) (filter-all P xs (h .1)))
+
+and-false : (b : Bool) → (b && false) ≡ false
+and-false true = refl
+and-false false = refl
+
+-- ---- no point is its own other
+
+self-no-other : (q : Site) (p : Station) → nearerOther q p p ≡ false
+unfolding nearerOther
+self-no-other q p = rw (eq-eqb (p .number) (p .number) refl)
+
+-- ---- nothing is nearer than a point at the place itself
+
+square-self : (a : ℤ) → squareApart a a ≡ 0
+unfolding squareApart
+square-self a = ap (λ z. natAbs z * natAbs z) (+ℤ-invr a)
+
+distance-self : (q : Site) → distance² q q ≡ 0
+unfolding distance²
+distance-self q = omega (arith, square-self (q .x), square-self (q .y))
+
+none-nearer : (q : Site) (p c : Station) → p .site ≡ q → nearerOther q p c ≡ false
+unfolding nearerOther
+none-nearer q p c e =
+    let d : distance² q (p .site) ≡ 0 = ap (distance² q) e ∙ distance-self q in
+    let far : nearer (distance² (c .site) (p .site)) (distance² q (p .site)) ≡ false =
+    ap (nearer (distance² (c .site) (p .site))) d ∙ far-more 0 (distance² (c .site) (p .site)) 0 (omega arith) (near-self 0) in
+    ap (λ b. not (eqb (c .number) (p .number)) && b) far ∙ and-false (not (eqb (c .number) (p .number)))
+
+-- ---- the two
+
+-- with k or fewer points enrolled every point answers
+pub few-answer : (all : List Station) (q : Site) (k : ℕ) → length all ≤ k → (p : Station) → Mem p all → answersTo all q k p ≡ true
+unfolding answersTo
+few-answer all q k few p m =
+    lt-ltb (count (nearerOther q p) all) k (omega (arith, count-less (nearerOther q p) all m (self-no-other q p)))
+
+-- so the answer is all of them
+pub few-all-answer : (all : List Station) (q : Site) (k : ℕ) → length all ≤ k → answer all q k ≡ rising (map (λ p. p .number) all)
+unfolding answer
+few-all-answer all q k few =
+    ap (λ ps. rising (map (λ (p : Station). p .number) ps))
+    (filter-all (answersTo all q k) all (all-mem (λ p. answersTo all q k p ≡ true) all (few-answer all q k few)))
+
+-- a point at q itself always answers
+pub here-answers : (all : List Station) (q : Site) (k : ℕ) → 1 ≤ k → (p : Station) → p .site ≡ q → answersTo all q k p ≡ true
+unfolding answersTo
+here-answers all q k some p e =
+    lt-ltb (count (nearerOther q p) all) k (omega (arith, count-none (nearerOther q p) (λ c. none-nearer q p c e) all))
