@@ -1,10 +1,10 @@
 -- Two small truths of the meaning: with k or fewer points enrolled every point answers, since no point is its own other; and a point at the place itself always answers, since nothing is nearer than the distance 0. Assumes nothing.
-use Prim.Native.Nat.{ℕ, _+_, _*_, _≤_, _<_}
+use Prim.Native.Nat.{ℕ, _*_, _≤_, _<_}
 use native.Mathlib.Omega.{arith}
 use mathlib.Core.Path.{_≡_, refl, sym, ap, _∙_}
 use mathlib.Core.Logic.{⊎-elim}
 use mathlib.Core.Bool.{Bool, true, false, not, _&&_}
-use mathlib.Core.List.{List, [], _∷_, map, List·Memᴰ·not-nil, List·Memᴰ·cases-cons}
+use mathlib.Core.List.{List, [], _∷_, map, List·Memᴰ·not-nil, List·Memᴰ·cases-cons, Memᴰ·map, Memᴰ·of-map}
 use lib.Dec.{eqb}
 use lib.IntN.{ℤ, natAbs, +ℤ-invr}
 use lib.ListN.{length}
@@ -13,7 +13,9 @@ use Rattle.grid.specs.Site.{Site, squareApart, distance²}
 use Rattle.grid.specs.Nearer.{nearer}
 use Rattle.grid.proofs.Nearer.{far-more, near-self}
 use Rattle.order.specs.Lists.{one, count, filter, Mem, All}
-use Rattle.order.proofs.Lists.{all-mem}
+use Rattle.order.proofs.Perm.{psym, perm-mem}
+use Rattle.order.proofs.Lists.{filter-mem, mem-filter, all-mem}
+use Rattle.order.proofs.Order.{sort-perm}
 use Rattle.table.specs.Stations.{Station}
 use Rattle.filter.specs.Meaning.{nearerOther, answersTo, rising, answer}
 
@@ -23,7 +25,7 @@ one-most : (b : Bool) → one b ≤ 1
 one-most true = omega arith
 one-most false = omega arith
 
-count-most : {A : Type 0} (P : A → Bool) (xs : List A) → count P xs ≤ length xs
+pub count-most : {A : Type 0} (P : A → Bool) (xs : List A) → count P xs ≤ length xs
 count-most P [] = omega arith
 count-most P (x ∷ xs) = omega (arith, one-most (P x), count-most P xs)
 
@@ -34,9 +36,9 @@ count-less P (x ∷ xs) m e =
     ⊎-elim (λ h. omega (arith, ap one (ap P (sym h) ∙ e), count-most P xs))
     (λ h. omega (arith, one-most (P x), count-less P xs h e)) (List·Memᴰ·cases-cons m)
 
-count-none : {A : Type 0} (P : A → Bool) → ((x : A) → P x ≡ false) → (xs : List A) → count P xs ≡ 0
-count-none P h [] = refl
-count-none P h (x ∷ xs) = omega (arith, ap one (h x), count-none P h xs)
+pub count-none : {A : Type 0} (P : A → Bool) (xs : List A) → All (λ x. P x ≡ false) xs → count P xs ≡ 0
+count-none P [] h = refl
+count-none P (x ∷ xs) h = omega (arith, ap one (h .0), count-none P xs (h .1))
 
 pub filter-all : {A : Type 0} (P : A → Bool) (xs : List A) → All (λ x. P x ≡ true) xs → filter P xs ≡ xs
 filter-all P [] h = refl
@@ -70,6 +72,24 @@ none-nearer q p c e =
     ap (nearer (distance² (c .site) (p .site))) d ∙ far-more 0 (distance² (c .site) (p .site)) 0 (omega arith) (near-self 0) in
     ap (λ b. not (eqb (c .number) (p .number)) && b) far ∙ and-false (not (eqb (c .number) (p .number)))
 
+-- ---- who answers stands in the answer
+
+pub answering-in : (all : List Station) (q : Site) (k : ℕ) (p : Station) → Mem p all → answersTo all q k p ≡ true → Mem (p .number) (answer all q k)
+unfolding answer rising
+answering-in all q k p m e =
+    let ns = map (λ (s : Station). s .number) (filter (answersTo all q k) all) in
+    perm-mem (psym (sort-perm (λ n. n) ns)) (Memᴰ·map (λ (s : Station). s .number) (mem-filter (answersTo all q k) all m e))
+
+-- and nobody else
+pub in-answer : (all : List Station) (q : Site) (k n : ℕ) → Mem n (answer all q k)
+    → (p : Station) × Mem p all × (answersTo all q k p ≡ true) × (p .number ≡ n)
+unfolding answer rising
+in-answer all q k n m =
+    let ps = filter (answersTo all q k) all in
+    let o = Memᴰ·of-map (λ (s : Station). s .number) ps (perm-mem (sort-perm (λ i. i) (map (λ (s : Station). s .number) ps)) m) in
+    let f = filter-mem (answersTo all q k) all (o .1) in
+    (o .0, f .0, f .1, o .2)
+
 -- ---- the two
 
 -- with k or fewer points enrolled every point answers
@@ -89,4 +109,5 @@ few-all-answer all q k few =
 pub here-answers : (all : List Station) (q : Site) (k : ℕ) → 1 ≤ k → (p : Station) → p .site ≡ q → answersTo all q k p ≡ true
 unfolding answersTo
 here-answers all q k some p e =
-    lt-ltb (count (nearerOther q p) all) k (omega (arith, count-none (nearerOther q p) (λ c. none-nearer q p c e) all))
+    let none : All (λ c. nearerOther q p c ≡ false) all = all-mem (λ c. nearerOther q p c ≡ false) all (λ c m. none-nearer q p c e) in
+    lt-ltb (count (nearerOther q p) all) k (omega (arith, count-none (nearerOther q p) all none))

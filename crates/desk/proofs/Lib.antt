@@ -1,0 +1,6 @@
+pub mod Given
+pub mod Granted
+pub mod Passing
+pub mod Kept
+pub mod Finds
+pub mod Demands

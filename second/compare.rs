@@ -1,0 +1,236 @@
+//! Compares the proved library with the second implementation, word by word.
+//! `compare check|changes|queries SEEDS` runs that many seeds and says how many calls agreed; `compare bench` measures.
+
+mod check;
+mod library;
+mod query;
+mod random;
+mod table;
+
+use library::Lists;
+use random::Random;
+use std::time::Instant;
+use table::Table;
+
+fn main() {
+    let args: Vec<String> = std::env::args().collect();
+    let seeds: u64 = args.get(2).and_then(|s| s.parse().ok()).unwrap_or(1);
+    match args.get(1).map(String::as_str) {
+        Some("check") => checks(seeds),
+        Some("changes") => changes(seeds),
+        Some("queries") => queries(seeds),
+        Some("bench") => bench(),
+        _ => {
+            eprintln!("usage: compare check|changes|queries SEEDS, or compare bench");
+            std::process::exit(2);
+        }
+    }
+}
+
+/// A random table of the second implementation, of up to `most` points, by one of several habits.
+fn random_table(r: &mut Random, habit: u64, most: i64) -> Table {
+    let mut t = Table::new();
+    let want = r.between(0, most) as usize;
+    while t.points < want {
+        let (x, y) = r.place(habit);
+        t.enrol(r.between(1, 9999) as i32, x, y);
+    }
+    t
+}
+
+// ---- the check: random tables, whole, with a few random words changed, or of another length
+
+fn checks(seeds: u64) {
+    let (mut tables, mut bad) = (0, 0);
+    for seed in 0..seeds {
+        let mut r = Random(seed);
+        let t = random_table(&mut r, seed, 120);
+        let whole = t.words();
+        assert_eq!(library::check(&whole), 0, "seed {seed}");
+        for _ in 0..200 {
+            let mut w = whole.clone();
+            for _ in 0..r.between(1, 2) {
+                // Mostly near the used slots, where a change is seldom harmless.
+                let at = if r.below(8) == 0 { r.below(w.len() as u64) } else { r.below(2 + 42 * 40) } as usize;
+                w[at] = match r.below(6) {
+                    0 => w[at].wrapping_add(1),
+                    1 => w[at].wrapping_sub(1),
+                    2 => -1,
+                    3 => 0,
+                    4 => r.between(-3, 300) as i32,
+                    _ => r.next() as i32,
+                };
+            }
+            if r.below(20) == 0 {
+                w.truncate(r.below(w.len() as u64) as usize);
+            }
+            let before = w.clone();
+            let want = check::check(&w);
+            assert_eq!(library::check(&w), want, "seed {seed}");
+            assert_eq!(w, before);
+            tables += 1;
+            bad += usize::from(want != 0);
+        }
+    }
+    println!("check: {tables} tables agree, {bad} of them bad");
+}
+
+// ---- enrolments and withdrawals: every word after every call
+
+fn changes(seeds: u64) {
+    let mut calls = 0u64;
+    for seed in 0..seeds {
+        let mut r = Random(1000 + seed);
+        let mut t = Table::new();
+        let mut w = t.words();
+        // Grow to 500 and shrink to none, and again with both mixed.
+        for phase in 0..4 {
+            let growing = phase % 2 == 0;
+            let mixed = phase >= 2;
+            let mut turns = 0;
+            while turns < 2400 && (if growing { t.points < 500 } else { t.points > 0 }) {
+                turns += 1;
+                let enrol = if mixed && r.below(4) == 0 { !growing } else { growing };
+                let habit = seed + u64::from(r.below(50) == 0);
+                let (given, want) = if enrol {
+                    let (mut x, mut y) = r.place(habit);
+                    let least = if r.below(40) == 0 { -2 } else { 1 };
+                    let number = r.between(least, 900) as i32;
+                    if r.below(60) == 0 {
+                        x = 1_000_001;
+                    } else if r.below(60) == 0 {
+                        y = i32::MIN;
+                    }
+                    (library::enrol(&mut w, number, x, y), t.enrol(number, x, y))
+                } else {
+                    let all = t.stations();
+                    let number = if all.is_empty() || r.below(10) == 0 { r.between(-1, 10_001) as i32 } else { all[r.below(all.len() as u64) as usize].0 };
+                    (library::withdraw(&mut w, number), t.withdraw(number))
+                };
+                assert_eq!(given, want, "seed {seed}");
+                assert!(w == t.words(), "seed {seed}: the words differ");
+                calls += 1;
+            }
+            if growing && t.points == 500 {
+                let before = w.clone();
+                let free = (1..=9999).find(|&n| !t.has(n)).unwrap();
+                assert_eq!(library::enrol(&mut w, free, 0, 0), 7);
+                assert_eq!(w, before);
+                calls += 1;
+            }
+        }
+    }
+    println!("changes: {calls} calls agree in every word");
+}
+
+// ---- queries: answers, candidates, counts, and every word of both lists
+
+fn queries(seeds: u64) {
+    let mut calls = 0u64;
+    for seed in 0..seeds {
+        let mut r = Random(5000 + seed);
+        let t = random_table(&mut r, seed, 500);
+        let w = t.words();
+        let all = t.stations();
+        for _ in 0..8 {
+            let (mut x, y) = r.place(seed);
+            let k = if r.below(20) == 0 { r.between(-1, 18) } else { r.between(1, 16) } as i32;
+            if r.below(40) == 0 {
+                x = -1_000_001;
+            }
+            let room = if r.below(20) == 0 { r.below(all.len() as u64 + 1) as usize } else { 500 };
+            let places = if r.below(20) == 0 { r.below(6) as usize } else { 500 };
+            let mut l = Lists::marked(room, places);
+            let mut want = l.clone();
+            let given = library::query(&w, x, y, k, &mut l);
+            let q = [i64::from(x), i64::from(y)];
+            let number = if !table::on_grid(x) || !table::on_grid(y) {
+                4
+            } else if !(1..=16).contains(&k) {
+                5
+            } else if room < all.len() {
+                9
+            } else {
+                let f = query::walk(&t, q, k as usize);
+                assert_eq!(f.answers, query::scan(&all, q, k as usize));
+                for (i, c) in f.candidates.iter().enumerate() {
+                    (want.numbers[i], want.xs[i], want.ys[i], want.squares[i]) = (c.0, c.1 as i32, c.2 as i32, c.3 as u64);
+                }
+                if places < f.answers.len() {
+                    want.counts = [f.answers.len() as u64, 0, 0];
+                    10
+                } else {
+                    for (i, a) in f.answers.iter().enumerate() {
+                        want.answers[i] = *a as u32;
+                    }
+                    want.counts = [f.answers.len() as u64, f.candidates.len() as u64, f.opened as u64];
+                    0
+                }
+            };
+            assert_eq!(given, number, "seed {seed}");
+            assert_eq!(l, want, "seed {seed}");
+            calls += 1;
+        }
+    }
+    println!("queries: {calls} calls agree in every word of both lists");
+}
+
+// ---- how long things take: the best of some rounds, both sides in one run
+
+fn best<F: FnMut()>(rounds: usize, mut f: F) -> f64 {
+    (0..rounds)
+        .map(|_| {
+            let began = Instant::now();
+            f();
+            began.elapsed().as_secs_f64()
+        })
+        .fold(f64::INFINITY, f64::min)
+}
+
+fn bench() {
+    let mut r = Random(42);
+    let mut t = Table::new();
+    while t.points < 500 {
+        let (x, y) = r.place(0);
+        t.enrol(r.between(1, 9999) as i32, x, y);
+    }
+    let full = t.words();
+    let turns = 1000;
+    let s = best(5, || {
+        for _ in 0..turns {
+            assert_eq!(library::check(&full), 0);
+        }
+    });
+    println!("check of a full table: {:.1} microseconds", 1e6 * s / turns as f64);
+
+    let mut t = Table::new();
+    while t.points < 400 {
+        let (x, y) = r.place(0);
+        t.enrol(r.between(1, 9999) as i32, x, y);
+    }
+    let (w, all) = (t.words(), t.stations());
+    let sites: Vec<(i32, i32)> = (0..10_000).map(|_| r.place(0)).collect();
+    let mut l = Lists::marked(500, 500);
+    let mut sum = 0u64;
+    let proved = best(3, || {
+        for &(x, y) in &sites {
+            assert_eq!(library::query(&w, x, y, 5, &mut l), 0);
+            sum += l.counts[0];
+        }
+    });
+    let mut other = 0u64;
+    let scanned = best(3, || {
+        for &(x, y) in &sites {
+            other += query::scan(&all, [i64::from(x), i64::from(y)], 5).len() as u64;
+        }
+    });
+    assert_eq!(sum, other);
+    let walked = best(3, || {
+        for &(x, y) in &sites {
+            assert!(query::walk(&t, [i64::from(x), i64::from(y)], 5).opened > 0);
+        }
+    });
+    let per = |s: f64| s * 1e6 / sites.len() as f64;
+    println!("query, 400 points, k 5: proved {:.1}, second's walk {:.1}, second's scan {:.1} microseconds a site", per(proved), per(walked), per(scanned));
+    println!("sites per second against the scan of every holder: {:.1} times; against the second's walk: {:.2} times the time", scanned / proved, proved / walked);
+}
