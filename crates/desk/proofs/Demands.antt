@@ -43,19 +43,13 @@ demand1 = record {
         if-refused g no (laidOver (answersFound ws q (natOf k)) out) out,
       );
   short = λ ws q k cs out ten.
-      let counts = countsOf ws q (natOf k) in (
+      let counts = countsOf ws q (natOf k) in
+      let records = laidOver (recordsFound ws q (natOf k)) cs in (
         ap (λ g. ifDone g counts (ifFewAnswers g (onlyN counts) zeroCounts)) ten,
+        ap (λ g. ifDone g records (ifFewAnswers g records cs)) ten,
         ap (λ g. ifDone g (laidOver (answersFound ws q (natOf k)) out) out) ten,
       );
 }
-
--- and refusal 10 leaves the candidate list as a success would
-pub short-candidates : (ws : Words) (q : Site) (k : ℤ) (cs : List Record) (out : List ℕ) → afterQuery ws q k cs out .given ≡ FewAnswers
-    → afterQuery ws q k cs out .candidates ≡ laidOver (recordsFound ws q (natOf k)) cs
-unfolding afterQuery
-short-candidates ws q k cs out ten =
-    let records = laidOver (recordsFound ws q (natOf k)) cs in
-    ap (λ g. ifDone g records (ifFewAnswers g records cs)) ten
 
 -- ---- demand 2
 

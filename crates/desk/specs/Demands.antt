@@ -18,7 +18,7 @@ use Rattle.table.specs.Slots.{slots, isFree, levelAt}
 use Rattle.table.specs.Stations.{Station, stations}
 use Rattle.table.specs.Rules.{wellFormed}
 use Rattle.filter.specs.Meaning.{answer}
-use Rattle.filter.specs.Query.{Record, answersFound, countsOf}
+use Rattle.filter.specs.Query.{Record, recordsFound, answersFound, countsOf, laidOver}
 use Rattle.desk.specs.Refusals.{enrolGives, withdrawGives, queryGives}
 use Rattle.desk.specs.Calls.{ifDone, afterEnrol, afterWithdraw, Queried, afterQuery, zeroCounts, onlyN}
 
@@ -37,9 +37,11 @@ pub record Demand1 : Type 0 where
   pub query : (ws : Words) (q : Site) (k : ℤ) (cs : List Record) (out : List ℕ)
       → (afterQuery ws q k cs out .given ≡ Done → ⊥) → (afterQuery ws q k cs out .given ≡ FewAnswers → ⊥)
       → (afterQuery ws q k cs out .counts ≡ zeroCounts) × (afterQuery ws q k cs out .candidates ≡ cs) × (afterQuery ws q k cs out .answers ≡ out)
-  -- 10 gives n, and changes the candidate list alone
+  -- 10 gives n, leaves the candidate list as a success would, and the answer list as it was
   pub short : (ws : Words) (q : Site) (k : ℤ) (cs : List Record) (out : List ℕ) → afterQuery ws q k cs out .given ≡ FewAnswers
-      → (afterQuery ws q k cs out .counts ≡ onlyN (countsOf ws q (natOf k))) × (afterQuery ws q k cs out .answers ≡ out)
+      → (afterQuery ws q k cs out .counts ≡ onlyN (countsOf ws q (natOf k)))
+      × (afterQuery ws q k cs out .candidates ≡ laidOver (recordsFound ws q (natOf k)) cs)
+      × (afterQuery ws q k cs out .answers ≡ out)
 
 -- ---- demand 2: a granted query lists, rising, exactly the stations that have fewer than k others nearer than the place
 
