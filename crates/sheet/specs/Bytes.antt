@@ -1,6 +1,6 @@
 -- 01, "The job sheet": lines end with a line feed, fields are parted by tabs.
 use Prim.Native.Nat.{ℕ}
-use mathlib.Core.Bool.{Bool, cond}
+use mathlib.Core.Bool.{cond}
 use mathlib.Core.List.{List, [], _∷_}
 use lib.Dec.{eqb}
 

@@ -1,5 +1,5 @@
 pub mod Bytes
+pub mod Marks
 pub mod Number
 pub mod Job
 pub mod Output
-pub mod Sheet

@@ -1,9 +1,9 @@
 -- 01: "A field is a number or it is not: an optional minus, then 1 to 7 digits, no leading zero except in 0 itself, no −0."
 use Prim.Native.Nat.{ℕ, _+_, _-_, _*_}
-use mathlib.Core.Bool.{Bool, true, false, cond, not, _&&_, _||_}
-use mathlib.Core.List.{List, [], _∷_}
-use lib.Dec.{eqb, leb}
-use lib.IntN.{ℤ, pos, negℤ}
+use mathlib.Core.Bool.{Bool, false, cond, not, _&&_, _||_}
+use mathlib.Core.List.{[], _∷_}
+use lib.Dec.{eqb}
+use lib.IntN.{pos, negℤ}
 use lib.ListN.{length}
 use Rattle.order.specs.Lists.{every}
 use Rattle.table.specs.Rules.{between}

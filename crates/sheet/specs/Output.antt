@@ -1,11 +1,15 @@
 -- 01: "Output, no header: line number from 1, letter (? for 11), number given back;
 -- after a granted Q also n, m, o and the n point numbers. Fields are parted by tabs."
 use Prim.Native.Nat.{ℕ, zero, suc, _+_, _/_, _%_}
-use mathlib.Core.Bool.{Bool, cond}
+use mathlib.Core.Bool.{cond}
 use mathlib.Core.List.{List, [], _∷_, _++_, map}
+use mathlib.Core.Path.{_≡_}
 use lib.Dec.{ltb}
+use lib.ListN.{length, take, drop}
+use Rattle.sheet.specs.declared.job.Job.{Job}
+use Rattle.sheet.specs.declared.job.Job.the-variants.{Enrol, Withdraw, Query, MissingK, Misshapen}
 use Rattle.sheet.specs.Bytes.{Bytes, TAB, FEED}
-use Rattle.sheet.specs.Job.{Job, enrol, withdraw, query, missingK, misshapen, ENROL, WITHDRAW, QUERY}
+use Rattle.sheet.specs.Job.{ENROL, WITHDRAW, QUERY}
 
 -- a number in decimal digits, of which so many are enough
 abbrev pub decimalIn : ℕ → ℕ → Bytes
@@ -18,17 +22,30 @@ decimal n = decimalIn 20 n
 
 -- the letter of a job: ? for a misshapen line
 abbrev pub letterOf : Job → ℕ
-letterOf (enrol n a b) = ENROL
-letterOf (withdraw n) = WITHDRAW
-letterOf (query a b k) = QUERY
-letterOf missingK = QUERY
-letterOf misshapen = 63
+letterOf (Enrol n a b) = ENROL
+letterOf (Withdraw n) = WITHDRAW
+letterOf (Query a b k) = QUERY
+letterOf MissingK = QUERY
+letterOf Misshapen = 63
 
 -- further fields, each after a tab
 abbrev pub tabbed : List Bytes → Bytes
 tabbed [] = []
 tabbed (f ∷ fs) = TAB ∷ f ++ tabbed fs
 
--- line number, letter, number given back, further numbers; a line feed at the end
+-- line number, letter, number given back
+unfoldable pub headOf : ℕ → ℕ → ℕ → Bytes
+headOf number letter given = decimal number ++ tabbed ((letter ∷ []) ∷ decimal given ∷ [])
+
+-- the head, then the further numbers; a line feed at the end
 unfoldable pub outputLine : ℕ → ℕ → ℕ → List ℕ → Bytes
-outputLine number letter given more = decimal number ++ tabbed ((letter ∷ []) ∷ decimal given ∷ map decimal more) ++ FEED ∷ []
+outputLine number letter given more = headOf number letter given ++ (tabbed (map decimal more) ++ FEED ∷ [])
+
+-- `bytes` stand in `out` from `at` on, and everything else is as it was
+unfoldable pub laidAt : Bytes → ℕ → Bytes → Bytes
+laidAt out at bytes = take at out ++ (bytes ++ drop (at + length bytes) out)
+
+-- what a function that lays bytes leaves behind, and the place behind them that it gives back
+pub record Laid (out : Bytes) (at : ℕ) (bytes : Bytes) (left : Bytes) (next : ℕ) : Type 0 where
+  pub laid : left ≡ laidAt out at bytes
+  pub behind : next ≡ at + length bytes

@@ -1,4 +1,9 @@
 // The job sheet: lines, fields, numbers, the line handlers, the bytes of an output line.
-// It promises every byte of each output line, and the table and the lists after it, by the definitions in specs/.
-// It stands on desk (the calls) and below.
+// It promises what each line asks for, and every byte of an output line, by the definitions in specs/.
+// It stands on order and table (definitions alone).
+pub mod fields;
+pub mod job;
+pub mod lines;
+pub mod marks;
 pub mod number;
+pub mod output;

@@ -1,22 +1,24 @@
 -- A whole sheet: the program starts with the empty table and lists of 500, and writes one line for each line read.
-use Prim.Native.Nat.{ℕ, suc, _+_}
-use mathlib.Core.Bool.{Bool, cond}
+use Prim.Native.Nat.{ℕ, _+_}
+use mathlib.Core.Bool.{cond}
 use mathlib.Core.List.{List, [], _∷_, _++_}
 use lib.Dec.{ltb}
 use lib.IntN.{ℤ, pos}
 use lib.ListN.{length, take, replicate}
 use Rattle.table.specs.Figures.{MOST}
 use Rattle.table.specs.Words.{Words}
-use Rattle.filter.specs.Query.{Record, Counts}
+use Rattle.filter.specs.Query.{Record}
 use Rattle.table.specs.declared.given.Given.{Given}
-use Rattle.table.specs.declared.given.Given.the-variants.{NoSuchK, Misshapen}
+use Rattle.table.specs.declared.given.Given.the-variants as given
 use Rattle.table.specs.Given.{numberGiven}
 use Rattle.desk.specs.Refusals.{site, enrolGives, withdrawGives}
 use Rattle.desk.specs.Calls.{ifDone, afterEnrol, afterWithdraw, Queried, afterQuery}
 use Rattle.table.specs.Empty.{emptyTable}
 use Rattle.sheet.specs.Bytes.{Bytes, linesOf}
-use Rattle.sheet.specs.Job.{Job, enrol, withdraw, query, missingK, misshapen, jobOf}
+use Rattle.sheet.specs.declared.job.Job.{Job}
+use Rattle.sheet.specs.declared.job.Job.the-variants.{Enrol, Withdraw, Query, MissingK, Misshapen}
+use Rattle.sheet.specs.Job.{jobOf}
 use Rattle.sheet.specs.Output.{letterOf, outputLine}
 
 -- the table and the two lists
 pub record State : Type 0 where
@@ -47,11 +49,11 @@ queried st r =
     }
 
 abbrev pub ranJob : State → Job → Ran
-ranJob st (enrol n a b) = record { state = withWords st (afterEnrol (st .words) n (site a b)); given = enrolGives (st .words) n (site a b); more = [] }
-ranJob st (withdraw n) = record { state = withWords st (afterWithdraw (st .words) n); given = withdrawGives (st .words) n; more = [] }
-ranJob st (query a b k) = queried st (afterQuery (st .words) (site a b) k (st .candidates) (st .answers))
-ranJob st missingK = record { state = st; given = NoSuchK; more = [] }
-ranJob st misshapen = record { state = st; given = Misshapen; more = [] }
+ranJob st (Enrol n a b) = record { state = withWords st (afterEnrol (st .words) n (site a b)); given = enrolGives (st .words) n (site a b); more = [] }
+ranJob st (Withdraw n) = record { state = withWords st (afterWithdraw (st .words) n); given = withdrawGives (st .words) n; more = [] }
+ranJob st (Query a b k) = queried st (afterQuery (st .words) (site a b) k (st .candidates) (st .answers))
+ranJob st MissingK = record { state = st; given = given.NoSuchK; more = [] }
+ranJob st Misshapen = record { state = st; given = given.Misshapen; more = [] }
 
 unfoldable pub ranLine : State → Bytes → Ran
 ranLine st line = ranJob st (jobOf line)

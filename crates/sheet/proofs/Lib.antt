@@ -1,0 +1,5 @@
+pub mod Parted
+pub mod Digits
+pub mod Jobs
+pub mod Laid
+pub mod Decimal
