@@ -20,3 +20,9 @@ pub mod Held
 pub mod ToRules
 pub mod Unique
 pub mod WellFormed
+pub mod Every
+pub mod Words
+pub mod Gathered
+pub mod Entries
+pub mod Marked
+pub mod Tallied

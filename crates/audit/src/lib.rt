@@ -1,2 +1,45 @@
-// The table check. So far its theorem stands here: a table is well formed exactly if it stores a sound tree.
-// It stands on table (parts, nodes, slots).
+// The table check: rules 1 to 7 of document 01, each a function of its own that may count on the rules before it.
+// It promises, for every slice of words whatever, exactly 1, 2 or 0; and never reads past an end.
+// It stands on table (parts, nodes, slots). Its proofs hold the theorem that a well-formed table stores one sound tree.
+ghost use mathlib.Core.Path.{_≡_};
+ghost use Rattle.table.specs.Given.{checkGives};
+
+pub mod children;
+pub mod header;
+pub mod numbers;
+pub mod references;
+pub mod shape;
+
+use table::figures::Table;
+use table::given::Given;
+
+// Document 01's table check: 1, 2 or 0, and the table stays as it is.
+pub fn check(table: &[i32]) -> Given
+    ensures { λ r. ⌜ r ≡ checkGives (now (table .entry)) ⌝ }
+{
+    if table.len() != Table::LENGTH {
+        return Given::WrongLength;
+    }
+    if !shape::rule1_holds(table) {
+        return Given::NotWellFormed;
+    }
+    if !header::rule2_holds(table) {
+        return Given::NotWellFormed;
+    }
+    if !shape::rule3_holds(table) {
+        return Given::NotWellFormed;
+    }
+    if !numbers::rule4_holds(table) {
+        return Given::NotWellFormed;
+    }
+    if !children::rule5_holds(table) {
+        return Given::NotWellFormed;
+    }
+    if !children::rule6_holds(table) {
+        return Given::NotWellFormed;
+    }
+    if !references::rule7_holds(table) {
+        return Given::NotWellFormed;
+    }
+    Given::Done
+}

@@ -1,0 +1,58 @@
+-- `references::referred_once` meets its contract: each slot passes rule 7, or the loop stops at one that does not. Assumes nothing.
+use Prim.Native.Nat.{_-_}
+use native.Mathlib.Omega.{arith}
+use mathlib.Core.Path.{sym}
+use Rattle.table.specs.Figures.{SLOTS}
+use Rattle.table.specs.Rules.{rule7}
+use Rattle.audit.proofs.Every.{Tested, none-tested, one-tested, failed, passed, one-fails, all-pass}
+use Rattle.audit.proofs.references.referred_once.Statement.{statement}
+use Rattle.audit.proofs.references.referred_once.Tie as tie
+
+abbrev Inv-loop : tie.InvT-loop
+Inv-loop table times slot₀ slot = Tested (rule7 table) SLOTS slot
+
+abbrev μ-loop : tie.MeasureT-loop
+μ-loop table times slot₀ slot = SLOTS - slot
+
+loop-holds : tie.Need-loop-holds Inv-loop μ-loop
+loop-holds c = none-tested (rule7 (c .args .table .now)) SLOTS
+
+rule7-at-requires : tie.Need-rule7-at-requires Inv-loop μ-loop
+rule7-at-requires c κs = (omega arith, omega arith, c .before .before .pre .1)
+
+returns : tie.Need-returns Inv-loop μ-loop
+returns c =
+    let ws = c .before .before .before .before .args .table .now in
+    let s = c .before .before .before .loop .slot in
+    sym (one-fails (rule7 ws) SLOTS s (omega arith) (failed (c .before .rule7-at .ensures) (c .if1 .taken)))
+
+add-slot : tie.Need-add-slot Inv-loop μ-loop
+add-slot c = omega arith
+
+loop-less : tie.Need-loop-less Inv-loop μ-loop
+loop-less c = omega arith
+
+loop-again : tie.Need-loop-again Inv-loop μ-loop
+loop-again c =
+    let ws = c .before .before .before .before .args .table .now in
+    let l = c .before .before .before .loop in
+    one-tested (rule7 ws) SLOTS (l .slot) (l .inv) (omega arith) (passed (c .before .rule7-at .ensures) (c .if1 .left))
+
+returns-2 : tie.Need-returns-2 Inv-loop μ-loop
+returns-2 c =
+    let l = c .before .loop in
+    sym (all-pass (rule7 (c .before .before .args .table .now)) SLOTS (l .slot) (l .inv) (omega arith))
+
+pub referred-once-spec : {M : Type 1} → statement M
+referred-once-spec =
+    tie.close
+    (tie.spec
+    Inv-loop
+    μ-loop
+    loop-holds
+    rule7-at-requires
+    returns
+    add-slot
+    loop-less
+    loop-again
+    returns-2)

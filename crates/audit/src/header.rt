@@ -1,0 +1,61 @@
+// Rule 2: the two header words.
+ghost use mathlib.Core.Path.{_≡_};
+ghost use lib.ListN.{length};
+ghost use Rattle.order.specs.Lists.{every};
+ghost use Rattle.table.specs.Figures.{LENGTH};
+ghost use Rattle.table.specs.Slots.{slots, isFree};
+ghost use Rattle.table.specs.Rules.{isEmpty, rule2};
+use grid::border;
+use table::figures::Table;
+use table::part;
+use table::slot;
+
+pub fn all_free(table: &[i32]) -> bool
+    requires { ⌜ length (now table) ≡ LENGTH ⌝ }
+    ensures { λ r. ⌜ r ≡ every (isFree (now (table .entry))) slots ⌝ }
+{
+    let mut slot = 0;
+    while slot < Table::SLOTS {
+        if !slot::is_free(table, slot) {
+            return false;
+        }
+        slot += 1;
+    }
+    true
+}
+
+// The empty table: root −1, points 0, all slots free.
+pub fn is_empty(table: &[i32]) -> bool
+    requires { ⌜ length (now table) ≡ LENGTH ⌝ }
+    ensures { λ r. ⌜ r ≡ isEmpty (now (table .entry)) ⌝ }
+{
+    if border::steps_at(table, 0) != part::NONE {
+        return false;
+    }
+    if slot::points_of(table) != 0 {
+        return false;
+    }
+    all_free(table)
+}
+
+// Rule 2: empty, or the root is a used slot and points are 1 to 500.
+pub fn rule2_holds(table: &[i32]) -> bool
+    requires { ⌜ length (now table) ≡ LENGTH ⌝ }
+    ensures { λ r. ⌜ r ≡ rule2 (now (table .entry)) ⌝ }
+{
+    if is_empty(table) {
+        return true;
+    }
+    let root = slot::root_of(table);
+    if Table::SLOTS <= root {
+        return false;
+    }
+    if slot::is_free(table, root) {
+        return false;
+    }
+    let points = slot::points_of(table);
+    if points < 1 {
+        return false;
+    }
+    points <= Table::MOST
+}
