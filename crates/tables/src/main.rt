@@ -18,27 +18,44 @@ fn number_in(line: &[u8], i: usize) -> i32 {
     n
 }
 
-// Words that are the empty table's, with room for one more.
-fn blank(words: &mut [i32; 10755]) {
-    words[0] = -1;
+// A word is set, if there is such a place.
+fn put(words: &mut [i32], at: usize, v: i32) {
+    if at < words.len() {
+        words[at] = v;
+    }
+}
+
+// Zeros become the empty table's words, with room for more behind.
+fn blank(words: &mut [i32]) {
+    put(words, 0, -1);
     let mut slot = 0;
     while slot < Table::SLOTS {
-        words[2 + Table::WIDTH * slot] = -1;
+        put(words, 2 + Table::WIDTH * slot, -1);
         slot += 1;
     }
 }
 
-// The words that a line names.
-fn poke(words: &mut [i32; 10755], line: &[u8]) {
+// The words that a line names, each by its place and its value.
+fn poke(words: &mut [i32], line: &[u8]) {
     let count = field_count(line);
     let mut i = 1;
     while i < count {
-        let at = grid::border::natural(number_in(line, i));
-        if at < 10755 {
-            words[at] = number_in(line, i + 1);
+        // No line of a sheet that was read has so many fields; so the count below cannot wrap.
+        if 65536 < i {
+            return;
         }
+        let at = grid::border::natural(number_in(line, i));
+        put(words, at, number_in(line, i + 1));
         i += 2;
     }
+}
+
+// What the check says of the first so many words.
+fn given_of(words: &[i32], length: usize) -> u8 {
+    if words.len() < length {
+        return 99;
+    }
+    number_given(audit::check(&words[..length]))
 }
 
 // What the check says of a line's table.
@@ -46,11 +63,7 @@ fn given_for(line: &[u8]) -> u8 {
     let mut words = [0i32; 10755];
     blank(&mut words);
     poke(&mut words, line);
-    let length = grid::border::natural(number_in(line, 0));
-    if 10755 < length {
-        return 99;
-    }
-    number_given(audit::check(&words[..length]))
+    given_of(&words, grid::border::natural(number_in(line, 0)))
 }
 
 fn say(given: u8) {
