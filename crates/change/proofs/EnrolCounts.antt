@@ -1,18 +1,17 @@
 -- Facts of lists as counts, and back: no slot twice, every slot inside, only points, a permutation. Counts are what `omega` reads. Assumes nothing.
-use Prim.Native.Nat.{ℕ, zero, suc, _+_, _≤_, _<_}
+use Prim.Native.Nat.{ℕ, _+_, _≤_, _<_}
 use native.Mathlib.Omega.{arith}
-use mathlib.Core.Path.{_≡_, refl, sym, ap, _∙_}
+use mathlib.Core.Path.{_≡_, refl, ap}
 use mathlib.Core.Bool.{Bool, true, false, not, _&&_}
-use mathlib.Core.List.{List, [], _∷_}
+use mathlib.Core.List.{List, [], _∷_, _++_}
 use lib.Dec.{eqb}
 use borrow.Author.Tests.{eqb-true, eq-eqb}
 use Rattle.grid.specs.declared.span.Span.{Span}
-use Rattle.grid.specs.declared.rect.Rect.{Rect}
-use Rattle.order.specs.Lists.{one, count, join, Mem, All, NoDup, Same}
+use Rattle.order.specs.Lists.{one, join, All, Same}
 use Rattle.order.specs.Order.{Perm}
-use Rattle.order.proofs.Lists.{all-mem, mem-all, same-perm}
+use Rattle.order.proofs.Lists.{count-append, all-mem, mem-all, same-perm}
 use Rattle.table.specs.declared.node.Entry.{Entry}
-use Rattle.table.specs.Figures.{SLOTS}
+use Rattle.table.specs.Figures.{LEAST, SLOTS}
 use Rattle.table.specs.Rules.{isPoint, sameSpan, sameRect}
 use Rattle.table.specs.Tree.{Tree, slotsOf, leavesOf, Filled}
 use Rattle.table.proofs.Slots.{entry-fields}
@@ -68,6 +67,19 @@ counts-good {l = l} {t = t} h f c = record {
   inside = times-all (slotsOf l t) (c .inside);
   points = sited-points (leavesOf l t) (c .sited);
 }
+
+-- each of several trees
+pub items-good : (l : ℕ) → l ≤ 5 → (xs : List (Tree l)) → All (Filled LEAST l) xs → ((o : ℕ) → times o (join (slotsOf l) xs) ≤ 1)
+    → Inside (join (slotsOf l) xs) → Sited (join (leavesOf l) xs) → All (Good LEAST l) xs
+items-good l low [] f once inside sited = tt
+items-good l low (x ∷ xs) f once inside sited =
+    let e : (o : ℕ) → times o (slotsOf l x ++ join (slotsOf l) xs) ≡ times o (slotsOf l x) + times o (join (slotsOf l) xs) =
+    λ o. count-append (eqb o) (slotsOf l x) (join (slotsOf l) xs) in
+    let p = count-append offGrid (leavesOf l x) (join (leavesOf l) xs) in (
+      counts-good low (f .0)
+          (record { once = λ o. omega (arith, once o, e o); inside = λ o m. inside o (omega (arith, m, e o)); sited = omega arith }),
+      items-good l low xs (f .1) (λ o. omega (arith, once o, e o)) (λ o m. inside o (omega (arith, m, e o))) (omega arith),
+    )
 
 -- ---- entries
 

@@ -1,17 +1,17 @@
 -- One node takes its items: up to eight stay, of nine four stay and five go to the lowest free slot. What is then stored, which slots changed and which were taken follows from the frame laws, and what the trees hold from the shares. Assumes nothing.
 use Prim.Native.Nat.{ℕ, zero, suc, _+_, _≤_, _<_}
 use native.Mathlib.Omega.{arith}
-use mathlib.Core.Path.{_≡_, refl, sym, ap, subst, _∙_}
+use mathlib.Core.Path.{_≡_, refl, sym, ap, _∙_}
 use mathlib.Core.Bool.{Bool, true, false, cond}
 use mathlib.Core.List.{List, [], _∷_, _++_, map}
 use lib.Dec.{eqb}
 use lib.ListN.{length, length-map}
 use borrow.Author.Tests.{eqb-true}
 use Rattle.order.specs.Lists.{one, count, join, All}
-use Rattle.order.proofs.Lists.{by-bool, by-leb, count-append, count-join, join-append, join-one}
+use Rattle.order.proofs.Lists.{by-bool, by-leb, count-append, count-join, join-append}
 use Rattle.table.specs.declared.node.Entry.{Entry}
 use Rattle.table.specs.Figures.{FAN, LEAST, SLOTS, LENGTH}
-use Rattle.table.specs.Words.{Words, partAt}
+use Rattle.table.specs.Words.{Words}
 use Rattle.table.specs.Page.{page, pageWords, coverOf}
 use Rattle.table.specs.Slots.{isFree, putPage, lowestFree}
 use Rattle.table.specs.Tree.{Tree, topOf, entryOfTree, slotsOf, leavesOf, Filled, Stored}
@@ -20,24 +20,8 @@ use Rattle.change.specs.Share.{firstShare, otherShare}
 use Rattle.change.specs.Within.{freeCount}
 use Rattle.change.specs.Enrol.{Grown, kept, split, settled}
 use Rattle.change.proofs.Shares.{firstBy, otherBy, first-map, other-map, share-by-perm, first-by-length, other-by-length, first-by-all, other-by-all}
-use Rattle.change.proofs.WithdrawItems.{
-  Item,
-  treeOf,
-  entryOfItem,
-  slotsOfItem,
-  leavesOfItem,
-  StoredItem,
-  FilledItem,
-  tree-top,
-  tree-items,
-  entries-items,
-  slots-items,
-  leaves-items,
-  entry-same,
-  node-stored,
-  node-filled,
-}
-use Rattle.change.proofs.WithdrawFrame.{times, times-self, times-other, Frame, Inside, Sited, frame-then, put-frame, items-kept}
+use Rattle.change.proofs.WithdrawItems.{Item, treeOf, entryOfItem, slotsOfItem, leavesOfItem, StoredItem, FilledItem, tree-top, entries-items, slots-items, leaves-items, node-stored, node-filled}
+use Rattle.change.proofs.WithdrawFrame.{times, times-self, times-one, Frame, Inside, Sited, frame-then, put-frame, items-kept}
 use Rattle.change.proofs.EnrolFree.{free-part, some-free, put-keeps, put-takes}
 
 -- ---- what a tree made of items holds
@@ -93,9 +77,6 @@ free-used ws s o f u e =
     let k : _≡_ {A = ℕ} 0 1 = cc in
     omega arith
 
-pub times-one : (o s : ℕ) → 1 ≤ one (eqb o s) → o ≡ s
-times-one o s h = eqb-true o s (by-bool (λ b. 1 ≤ one b → b ≡ true) (eqb o s) (λ e k. refl) (λ e k. absurd (omega arith)) h)
-
 pub times-not : (o s : ℕ) → (o ≡ s → ⊥) → one (eqb o s) ≡ 0
 times-not o s d = by-bool (λ b. eqb o s ≡ b → one b ≡ 0) (eqb o s) (λ e f. absurd (d (eqb-true o s f))) (λ e f. refl) refl
 
@@ -109,7 +90,9 @@ pub record Ready (lo l : ℕ) (ws : Words) (s : ℕ) (xs : List (Item l)) : Type
   pub low : s < SLOTS
   pub used : isFree ws s ≡ false
   pub stored : All (StoredItem l ws) xs
+  pub six : l ≤ 5
   pub apart : (o : ℕ) → 1 ≤ times o (join (slotsOfItem l) xs) → (o ≡ s → ⊥) × (isFree ws o ≡ false)
+  pub once : (o : ℕ) → times o (join (slotsOfItem l) xs) ≤ 1
   pub inside : Inside (join (slotsOfItem l) xs)
   pub sited : Sited (join (leavesOfItem l) xs)
   pub full : lo ≤ length xs

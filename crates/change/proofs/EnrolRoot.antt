@@ -1,10 +1,10 @@
 -- The root after an insertion: the old node, or a new root above it and its new sibling in the lowest slot then free. Assumes nothing.
-use Prim.Native.Nat.{ℕ, zero, suc, _+_, _≤_, _<_}
+use Prim.Native.Nat.{ℕ, suc, _+_, _≤_, _<_}
 use native.Mathlib.Omega.{arith}
 use native.Mathlib.Decide.{decLt}
 use mathlib.Core.Path.{_≡_, refl, sym, ap, subst, _∙_}
-use mathlib.Core.Bool.{Bool, true, false}
-use mathlib.Core.List.{List, [], _∷_, _++_, map}
+use mathlib.Core.Bool.{Bool, true}
+use mathlib.Core.List.{List, [], _∷_, map}
 use lib.Dec.{eqb}
 use lib.IntN.{ℤ, pos}
 use lib.ListN.{length, set, length-set, length-map}
@@ -15,15 +15,15 @@ use Rattle.table.specs.declared.node.Entry.{Entry}
 use Rattle.table.specs.Figures.{FAN, LEAST, SLOTS, LENGTH}
 use Rattle.table.specs.Words.{Words, word, partAt}
 use Rattle.table.specs.Page.{page, pageWords}
-use Rattle.table.specs.Slots.{isFree, putPage, lowestFree, entryFor, withRoot}
+use Rattle.table.specs.Slots.{isFree, putPage, lowestFree, entryFor}
 use Rattle.table.specs.Tree.{Tree, bough, topOf, entryOfTree, slotsOf, leavesOf, Filled, leastOf, Stored}
 use Rattle.table.proofs.Slots.{put-here, put-long, put-other, header-part, lowest-free}
 use Rattle.audit.proofs.Reading.{stored-frame}
 use Rattle.change.specs.Within.{freeCount}
 use Rattle.change.specs.Enrol.{Grown, rooted}
-use Rattle.change.proofs.WithdrawFrame.{times, times-self, times-other, put-frame, items-kept}
+use Rattle.change.proofs.WithdrawFrame.{times, times-self, times-one, times-other, put-frame, items-kept}
 use Rattle.change.proofs.EnrolFree.{free-part, some-free}
-use Rattle.change.proofs.EnrolNode.{Made, free-used, one-most, times-one, times-not}
+use Rattle.change.proofs.EnrolNode.{Made, free-used, one-most, times-not}
 use Rattle.change.proofs.EnrolTree.{used, used-all}
 
 pub stored-header : (l : ℕ) (ws : Words) (i : ℕ) (v : ℤ) (t : Tree l) → i < 2 → Stored l ws t → Stored l (set ws i v) t
@@ -116,14 +116,14 @@ module _ (l n : ℕ) (ws : Words) (s : ℕ) (old : List ℕ) (points : List Entr
         free = λ o m.
             elim (decLt 0 (one (eqb o f))) [
               | yes p ↦
-                  let h : o ≡ f = times-one o f p in
+                  let h : o ≡ f = times-one o f (omega arith) in
                   let kept : partAt us f ≡ partAt ws f = k .frame .kept f (omega (arith, off, holds f, count-append (eqb f) old (k .taken))) in
                   (omega arith, ap (isFree ws) h ∙ (sym (free-part us ws f kept) ∙ free))
               | no p ↦ k .free o (omega arith)
             ];
         once = λ o.
             elim (decLt 0 (one (eqb o f))) [
-              | yes p ↦ omega (arith, ap (λ z. times z (k .taken)) (times-one o f p), off, holds f, one-most (eqb o f))
+              | yes p ↦ omega (arith, ap (λ z. times z (k .taken)) (times-one o f (omega arith)), off, holds f, one-most (eqb o f))
               | no p ↦ omega (arith, k .once o)
             ];
         kept = λ o z.

@@ -1,34 +1,34 @@
 -- The insertion goes down the levels: what is stored below is good, so it can be read, and the node above takes its new items. Assumes nothing.
-use Prim.Native.Nat.{ℕ, zero, suc, _+_, _≤_, _<_, _^_}
+use Prim.Native.Nat.{ℕ, zero, suc, _+_, _≤_, _<_}
 use native.Mathlib.Omega.{arith}
 use native.Mathlib.Decide.{decLt}
 use native.Mathlib.Nat.{le-of-suc-le-suc}
-use mathlib.Core.Path.{_≡_, refl, sym, ap, subst, _∙_}
-use mathlib.Core.Bool.{Bool, true, false, not}
+use mathlib.Core.Path.{_≡_, refl, sym, ap, _∙_}
+use mathlib.Core.Bool.{Bool, true, false}
 use mathlib.Core.List.{List, [], _∷_, _++_, map, map-id, map-append}
 use lib.Dec.{eqb}
 use lib.ListN.{length, getD, set, length-append, length-set, length-map}
 use Rattle.grid.specs.declared.rect.Rect.{Rect}
 use Rattle.order.specs.Lists.{one, count, join, All}
-use Rattle.order.proofs.Lists.{by-bool, count-append, join-append, join-one, all-append, all-set}
+use Rattle.order.proofs.Lists.{count-append, join-append, join-one, all-append, all-set}
 use Rattle.table.specs.declared.node.Entry.{Entry}
-use Rattle.table.specs.Figures.{FAN, LEAST, SLOTS, LENGTH}
-use Rattle.table.specs.Words.{Words, partAt}
-use Rattle.table.specs.Page.{page, pageWords, blankEntry}
-use Rattle.table.specs.Slots.{isFree, pageAt, entriesAt, entryFor}
+use Rattle.table.specs.Figures.{LEAST, SLOTS, LENGTH}
+use Rattle.table.specs.Words.{Words}
+use Rattle.table.specs.Page.{page}
+use Rattle.table.specs.Slots.{isFree, entriesAt, entryFor}
 use Rattle.table.specs.Rules.{isPoint}
-use Rattle.table.specs.Tree.{Tree, topOf, entryOfTree, entriesOfTree, slotsOf, leavesOf, Filled, Stored}
+use Rattle.table.specs.Tree.{Tree, topOf, entryOfTree, slotsOf, leavesOf, Filled, Stored}
 use Rattle.table.proofs.Slots.{page-part-used}
 use Rattle.change.specs.Choose.{entryIn, chosen}
 use Rattle.change.specs.Within.{freeCount}
 use Rattle.change.specs.Enrol.{Grown, settled, inserted}
 use Rattle.change.proofs.Chosen.{chosen-in}
-use Rattle.change.proofs.WithdrawItems.{Item, itemsOf, treeOf, join-none, all-unit, slotsOfItem, leavesOfItem, StoredItem, FilledItem, filled-node}
-use Rattle.change.proofs.WithdrawFrame.{times, times-self, Frame, Inside, offGrid, Sited, frame-wide, frame-then, stored-kept, items-kept}
-use Rattle.audit.proofs.Reading.{Good, good-child, top-inside, noTree, childAt, child-in, child-entry, entries-fill, stored-child, stored-used, stored-entries, stored-entry, entry-reference}
-use Rattle.change.proofs.EnrolCounts.{Counted, good-counts, counts-good, point-counts}
+use Rattle.change.proofs.WithdrawItems.{join-none, all-unit, slotsOfItem}
+use Rattle.change.proofs.WithdrawFrame.{times, times-self, times-one, Frame, offGrid, frame-wide, frame-then, stored-kept, items-kept}
+use Rattle.audit.proofs.Reading.{Good, good-child, top-inside, noTree, childAt, child-in, child-entry, stored-child, stored-used, stored-entries, stored-entry, entry-reference}
+use Rattle.change.proofs.EnrolCounts.{good-counts, counts-good, items-good, point-counts}
 use Rattle.change.proofs.EnrolFree.{free-part}
-use Rattle.change.proofs.EnrolNode.{Made, Ready, free-used, times-one, times-not, settled-made}
+use Rattle.change.proofs.EnrolNode.{Made, Ready, free-used, settled-made}
 
 -- ---- lists
 
@@ -158,6 +158,10 @@ module _ {lo l n : ℕ} {ws : Words} {s : ℕ} {t : Tree l} {e : Entry} {g : Gro
       counts-good (old .low) (k .filled)
       (record { once = λ o. omega (arith, all-once o); inside = λ o m. all-inside o (omega arith); sited = omega (arith, all-points) })
 
+  pub good-new : All (Good LEAST l) (k .new)
+  good-new =
+      items-good l (old .low) (k .new) (k .filledNew) (λ o. omega (arith, all-once o)) (λ o m. all-inside o (omega arith)) (omega (arith, all-points))
+
 -- ---- a leaf is to take a point
 
 module _ (lo : ℕ) (ws : Words) (t : Tree zero) (e : Entry) (long : length ws ≡ LENGTH) (good : Good lo zero t) (stored : Stored zero ws t)
@@ -171,7 +175,9 @@ module _ (lo : ℕ) (ws : Words) (t : Tree zero) (e : Entry) (long : length ws �
         low = top-inside good;
         used = stored-used ws zero t stored;
         stored = all-unit xs;
+        six = omega arith;
         apart = λ o m. absurd (omega (arith, none o));
+        once = λ o. omega (arith, none o);
         inside = λ o m. absurd (omega (arith, none o));
         sited = ap (count offGrid) (join-one xs)
             ∙ omega (arith, count-append offGrid (t .items) (e ∷ []), good-counts good .sited, point-counts e point);
@@ -242,6 +248,8 @@ module _ (lo l : ℕ) (ws : Words) (t : Tree (suc l)) (e : Entry) (i : ℕ) (g :
         low = top-inside good;
         used = free-part (g .words) ws s (k .frame .kept s off) ∙ stored-used ws (suc l) t stored;
         stored = new-stored;
+        six = good .low;
+        once = λ o. omega (arith, new-slots o, off-taken o);
         apart = λ o m. (
           (λ h. omega (arith, m, ap (λ z. times z (join (slotsOf l) newItems)) h, top-off)),
           used-all l (g .words) (used l (g .words)) newItems new-stored o m,

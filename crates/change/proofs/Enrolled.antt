@@ -1,34 +1,32 @@
 -- A granted enrolment: the table afterwards holds a sound tree with the new point and all the old ones. The insertion and the root say what is stored; the header is two words. Assumes nothing.
-use Prim.Native.Nat.{ℕ, zero, suc, _+_, _-_, _*_, _≤_, _<_}
+use Prim.Native.Nat.{ℕ, zero, suc, _+_, _≤_, _<_}
 use native.Mathlib.Omega.{arith}
 use native.Mathlib.Decide.{decLt}
-use mathlib.Core.Path.{_≡_, refl, sym, ap, subst, _∙_}
-use mathlib.Core.Bool.{Bool, true, false, cond, _&&_, false≢true}
-use mathlib.Core.List.{List, [], _∷_, _++_, map, List·Memᴰ·head, List·Memᴰ·not-nil}
-use lib.Dec.{eqb}
-use lib.IntN.{ℤ, pos, negsuc}
-use lib.ListN.{length, take, drop, set, length-append, length-set}
-use lib.Seq.{take-at, drop-append-add, getD-set-same, getD-set-other}
-use Rattle.order.specs.Lists.{count, every, join, Mem, All, NoDup}
+use mathlib.Core.Path.{_≡_, sym, ap, subst, _∙_}
+use mathlib.Core.Bool.{true}
+use mathlib.Core.List.{List, [], _∷_, map, List·Memᴰ·head, List·Memᴰ·not-nil}
+use lib.IntN.{pos}
+use lib.ListN.{length, length-set}
+use lib.Seq.{getD-set-same, getD-set-other}
+use Rattle.order.specs.Lists.{Mem}
 use Rattle.order.specs.Order.{Perm}
 use Rattle.order.proofs.Perm.{psym, perm-length, perm-map}
 use Rattle.order.proofs.Lists.{length-filter, all-mem, perm-nodup}
 use Rattle.table.specs.declared.node.Entry.{Entry}
-use Rattle.table.specs.Figures.{FAN, MOST, SLOTS, WIDTH, LENGTH}
-use Rattle.table.specs.Words.{Words, word, isMinusOne, rootOf, pointsOf, startOf, partAt}
-use Rattle.table.specs.Page.{page, freeWords}
-use Rattle.table.specs.Empty.{freeSlots, emptyTable}
+use Rattle.table.specs.Figures.{FAN, MOST, SLOTS, LENGTH}
+use Rattle.table.specs.Words.{Words, pointsOf, partAt}
+use Rattle.table.specs.Page.{page}
 use Rattle.table.specs.Slots.{slots, isFree, putPage, entryFor, withRoot, withPoints}
-use Rattle.table.specs.Rules.{isPoint, isEmpty}
+use Rattle.table.specs.Rules.{isPoint}
 use Rattle.table.specs.Tree.{Tree, bough, topOf, slotsOf, leavesOf, leastOf, Sound, Holds}
-use Rattle.table.proofs.Slots.{free-length, put-here, put-other, put-long, header-part, free-part-free}
-use Rattle.audit.proofs.Counted.{number-counted, number-in, number-missing, count-nodup, below-every}
+use Rattle.table.proofs.Slots.{put-here, put-other, put-long, header-part}
+use Rattle.audit.proofs.Counted.{number-counted, number-missing, count-nodup}
 use Rattle.audit.proofs.Size.{sound-bounds}
-use Rattle.audit.proofs.Reading.{Good, good-root, least-some, held-root, held-points, stored-level, stored-entry}
-use Rattle.audit.proofs.AsRead.{read-good}
-use Rattle.audit.proofs.Complete.{Complete, free-count}
+use Rattle.audit.proofs.Reading.{good-root, least-some, held-root, held-points, stored-level, stored-entry}
+use Rattle.audit.proofs.Held.{eight-free, not-empty}
+use Rattle.audit.proofs.EmptyTable.{Blank, blank-is-empty}
 use Rattle.change.specs.Within.{freeCount}
-use Rattle.change.specs.Enrol.{Grown, inserted, rooted, nextEnrolled, firstEnrolled, enrolled}
+use Rattle.change.specs.Enrol.{inserted, rooted, nextEnrolled, firstEnrolled, enrolled}
 use Rattle.change.proofs.WithdrawFrame.{times, offGrid}
 use Rattle.change.proofs.EnrolCounts.{good-counts, sited-points, counts-perm, point-counts}
 use Rattle.change.proofs.EnrolNode.{Made}
@@ -37,32 +35,12 @@ use Rattle.change.proofs.EnrolRoot.{Root, root-made, stored-header}
 
 -- ---- a table that holds a tree
 
-module _ (ws : Words) (l : ℕ) (t : Tree l) (holds : Holds ws l t) (sound : Sound l t) where
-  -- a used slot is one of the tree's
-  pub held-complete : Complete ws l t
-  held-complete = record {
-    read = read-good ws (good-root sound) (holds .stored);
-    apart = sound .apart;
-    all = λ s low used.
-        elim (number-in s (slotsOf l t)) [
-          | yes m ↦ m
-          | no n ↦ absurd (false≢true (sym used ∙ free-part-free ws s (holds .others s low n)))
-        ];
-  }
+-- there is room for a new node on each of six levels, and for a new root
+pub held-room : {ws : Words} {l : ℕ} {t : Tree l} → Holds ws l t → Sound l t → 8 ≤ freeCount ws
+unfolding freeCount
+held-room {ws} h g = subst (λ n. 8 ≤ n) (length-filter (isFree ws) slots) (eight-free h g)
 
-  held-free : freeCount ws ≡ SLOTS - length (slotsOf l t)
-  unfolding freeCount
-  held-free = sym (length-filter (isFree ws) slots) ∙ free-count held-complete
-
-  -- so there is room for a new node on each of six levels, and for a new root
-  pub held-room : 8 ≤ freeCount ws
-  held-room = omega (arith, held-free, sound-bounds l t sound .1)
-
-  pub held-full : isEmpty ws ≡ false
-  unfolding isEmpty
-  held-full = ap (λ z. isMinusOne z && (eqb (pointsOf ws) 0 && every (isFree ws) slots)) (holds .root)
-
-least-most : (l : ℕ) → leastOf l ≤ 4
+pub least-most : (l : ℕ) → leastOf l ≤ 4
 least-most zero = omega arith
 least-most (suc l) = omega arith
 
@@ -118,7 +96,7 @@ module _ (ws : Words) (l : ℕ) (t : Tree l) (e : Entry) (holds : Holds ws l t) 
   -- the way down, from the root
   made : Made (leastOf l) l (suc l) ws (topOf l t) (slotsOf l t) (e ∷ leavesOf l t) (inserted l ws (topOf l t) e)
   made = insert-made e point (leastOf l) l (least-some l) (least-most l) ws t (holds .long) (good-root sound) (holds .stored)
-      (omega (arith, held-room ws l t holds sound, sound-bounds l t sound .0))
+      (omega (arith, held-room holds sound, sound-bounds l t sound .0))
 
   next : nextEnrolled ws e ≡ rooted (topOf l t) l (inserted l ws (topOf l t) e .words) (inserted l ws (topOf l t) e .new)
   next = rw (held-root holds, stored-level ws (good-root sound) (holds .stored))
@@ -129,28 +107,16 @@ module _ (ws : Words) (l : ℕ) (t : Tree l) (e : Entry) (holds : Holds ws l t) 
       let g = inserted l ws (topOf l t) e in
       let root : Root ws (slotsOf l t) (e ∷ leavesOf l t) (rooted (topOf l t) l (g .words) (g .new)) =
       root-made l (suc l) ws (topOf l t) (slotsOf l t) (e ∷ leavesOf l t) g made (holds .long) (holds .root)
-      (omega (arith, made .left, made .few, held-room ws l t holds sound, sound-bounds l t sound .0))
+      (omega (arith, made .left, made .few, held-room holds sound, sound-bounds l t sound .0))
       (ap (entryFor (g .words)) (sym (made .top)) ∙ stored-entry (g .words) (good-here (good-root sound) (holds .stored) point made) (made .stored)) in
-      rw (held-full ws l t holds sound, next) (held (rooted (topOf l t) l (g .words) (g .new)) root)
+      rw (not-empty holds sound, next) (held (rooted (topOf l t) l (g .words) (g .new)) root)
 
 -- ---- on the empty table
 
--- a table without a node
-pub record Bare (ws : Words) : Type 0 where
-  pub long : length ws ≡ LENGTH
-  pub root : word ws 0 ≡ negsuc 0
-  pub none : word ws 1 ≡ pos 0
-  pub free : (s : ℕ) → s < SLOTS → partAt ws s ≡ freeWords
-
-pub bare-empty : (ws : Words) → Bare ws → isEmpty ws ≡ true
-unfolding isEmpty
-bare-empty ws b =
-    rw (b .root, b .none, below-every (isFree ws) SLOTS (λ s h. free-part-free ws s (b .free s h)))
-
-module _ (ws : Words) (e : Entry) (bare : Bare ws) (point : isPoint e ≡ true) where
+module _ (ws : Words) (e : Entry) (blank : Blank ws) (point : isPoint e ≡ true) where
   first-words : enrolled ws e ≡ withPoints (firstEnrolled ws e) 1
   unfolding enrolled
-  first-words = rw (bare-empty ws bare, bare .none)
+  first-words = rw (blank-is-empty blank, blank .second)
 
   pub first-sound : Sound 0 (bough 0 (e ∷ []))
   first-sound = record {
@@ -168,7 +134,7 @@ module _ (ws : Words) (e : Entry) (bare : Bare ws) (point : isPoint e ≡ true) 
       let us = putPage ws 0 p in
       let vs = withRoot us (pos 0) in
       let few : length (e ∷ []) ≤ FAN = omega arith in
-      let long : length vs ≡ LENGTH = length-set us 0 (pos 0) ∙ put-long ws 0 p (bare .long) (omega arith) few ∙ bare .long in
+      let long : length vs ≡ LENGTH = length-set us 0 (pos 0) ∙ put-long ws 0 p (blank .long) (omega arith) few ∙ blank .long in
       let part : (o : ℕ) → partAt (withPoints vs 1) o ≡ partAt us o = λ o.
       header-part vs 1 (pos 1) (omega arith) o ∙ header-part us 0 (pos 0) (omega arith) o in
       rw first-words
@@ -177,39 +143,7 @@ module _ (ws : Words) (e : Entry) (bare : Bare ws) (point : isPoint e ≡ true) 
         root = getD-set-other vs 1 0 (pos 1) (pos 0) (λ z. omega arith)
             ∙ getD-set-same us 0 (pos 0) (pos 0) (omega (arith, length-set us 0 (pos 0), long));
         points = getD-set-same vs 1 (pos 1) (pos 0) (omega arith);
-        stored = part 0 ∙ put-here ws 0 p (bare .long) (omega arith) few;
+        stored = part 0 ∙ put-here ws 0 p (blank .long) (omega arith) few;
         others = λ s low m.
-            part s ∙ put-other ws 0 p (bare .long) (omega arith) few s (λ z. m (List·Memᴰ·head z)) ∙ bare .free s low;
+            part s ∙ put-other ws 0 p (blank .long) (omega arith) few s (λ z. m (List·Memᴰ·head z)) ∙ blank .frees s low;
       })
-
--- ---- the empty table is bare
-
-free-slots-length : (n : ℕ) → length (freeSlots n) ≡ WIDTH * n
-free-slots-length zero = refl
-free-slots-length (suc n) = omega (arith, length-append freeWords (freeSlots n), free-length, free-slots-length n)
-
-free-slots-part : (s n : ℕ) → s < n → take WIDTH (drop (WIDTH * s) (freeSlots n)) ≡ freeWords
-free-slots-part s zero h = absurd (omega arith)
-free-slots-part zero (suc n) h = take-at freeWords (freeSlots n) WIDTH free-length
-free-slots-part (suc s) (suc n) h =
-    let e : WIDTH * suc s ≡ length freeWords + WIDTH * s = omega (arith, free-length) in
-    ap (λ k. take WIDTH (drop k (freeWords ++ freeSlots n))) e
-    ∙ ap (take WIDTH) (drop-append-add freeWords (freeSlots n) (WIDTH * s))
-    ∙ free-slots-part s n (omega arith)
-
-module _ (n : ℕ) where
-  abbrev bareWords : Words
-  bareWords = negsuc 0 ∷ pos 0 ∷ freeSlots n
-
-  bare-part : (s : ℕ) → s < n → partAt bareWords s ≡ freeWords
-  unfolding partAt
-  bare-part s h =
-      let e : startOf s ≡ suc (suc (WIDTH * s)) = omega arith in
-      ap (λ (k : ℕ). take WIDTH (drop k bareWords)) e ∙ free-slots-part s n h
-
-  bare-long : length bareWords ≡ 2 + WIDTH * n
-  bare-long = omega (arith, free-slots-length n)
-
-pub empty-bare : Bare emptyTable
-unfolding emptyTable
-empty-bare = record { long = bare-long SLOTS; root = refl; none = refl; free = bare-part SLOTS }

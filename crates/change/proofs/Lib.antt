@@ -1,5 +1,7 @@
 pub mod Shares
+pub mod Held
 pub mod Chosen
+pub mod EnrolCounts
 pub mod WithdrawSearch
 pub mod WithdrawItems
 pub mod WithdrawFrame
@@ -7,10 +9,15 @@ pub mod WithdrawFlat
 pub mod WithdrawJoin
 pub mod WithdrawCut
 pub mod WithdrawPlanted
+pub mod WithdrawPages
+pub mod WithdrawRemoved
 pub mod Withdrawn
+pub mod WithdrawRoot
 pub mod EnrolFree
-pub mod EnrolCounts
 pub mod EnrolNode
 pub mod EnrolTree
 pub mod EnrolRoot
 pub mod Enrolled
+pub mod Settling
+pub mod Inserting
+pub mod Raising

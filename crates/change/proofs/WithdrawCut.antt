@@ -1,9 +1,9 @@
 -- A point is taken out of a stored tree: what the words hold afterwards is a tree with the same top slot and all other points, whose top has at most one item less. By recursion on the level; a child that falls to two joins a sibling. Assumes nothing.
-use Prim.Native.Nat.{ℕ, zero, suc, _+_, _-_, _≤_, _<_, _^_}
+use Prim.Native.Nat.{ℕ, zero, suc, _+_, _-_, _≤_, _<_}
 use native.Mathlib.Omega.{arith}
 use mathlib.Core.Path.{_≡_, refl, sym, ap, subst, _∙_}
-use mathlib.Core.Bool.{Bool, true, false, cond, _||_}
-use mathlib.Core.List.{List, [], _∷_, _++_, map, append-assoc}
+use mathlib.Core.Bool.{Bool, true, cond, _||_}
+use mathlib.Core.List.{List, [], _∷_, _++_, map, map-append, append-assoc}
 use lib.Dec.{eqb, ltb}
 use lib.ListN.{length, set, length-append, length-map}
 use borrow.Author.Tests.{eqb-true, ltb-true, ltb-false, lt-ltb, le-ltb}
@@ -14,7 +14,7 @@ use Rattle.table.specs.Figures.{FAN, LEAST, SLOTS, LENGTH}
 use Rattle.table.specs.Words.{Words, partAt}
 use Rattle.table.specs.Page.{page, freeWords, without}
 use Rattle.table.specs.Slots.{entriesAt, putPage, entryFor}
-use Rattle.table.specs.Tree.{Tree, bough, topOf, entryOfTree, entriesOfTree, slotsOf, leavesOf, leastOf, Filled, Stored}
+use Rattle.table.specs.Tree.{Tree, bough, topOf, entryOfTree, slotsOf, leavesOf, leastOf, Filled, Stored}
 use Rattle.table.proofs.Slots.{put-here, put-other}
 use Rattle.audit.proofs.Joined.{all-left, all-right}
 use Rattle.audit.proofs.Reading.{Good, entry-reference, stored-entries, stored-entry}
@@ -41,18 +41,7 @@ use Rattle.change.proofs.WithdrawFrame.{
   items-kept,
   offGrid,
 }
-use Rattle.change.proofs.WithdrawJoin.{
-  count-mid,
-  map-append,
-  without-at,
-  put-stored,
-  Known,
-  Redone,
-  Written,
-  at-seam,
-  set-seam,
-  joined-written,
-}
+use Rattle.change.proofs.WithdrawJoin.{count-mid, without-at, put-stored, Known, Written, at-seam, set-seam, joined-written}
 
 -- ---- the first that passes a test
 
@@ -190,7 +179,7 @@ module _ (l : ℕ) (ws : Words) (s n : ℕ) (bs : List (Tree l)) (c : Tree l) (z
       items-kept (slotsOf l c) ws mid (cut .frame) (suc l) xs
       (λ o m. omega (arith, ready .flat .once o, h o, count-mid (slotsOf l) (eqb o) bs c zs)) st
 
-  new-known : Known l mid new
+  pub new-known : Known l mid new
   new-known = record {
     low = omega (arith, ready .low);
     long = mid-long;
@@ -296,7 +285,7 @@ module _ (l : ℕ) (ws : Words) (s n : ℕ) (bs : List (Tree l)) (c : Tree l) (z
 
 -- ---- the child has two: it joins the next sibling by place, or the previous one if it is last
 
-filled-two : (l : ℕ) (t : Tree l) → Filled LEAST l t → Filled 2 l t
+pub filled-two : (l : ℕ) (t : Tree l) → Filled LEAST l t → Filled 2 l t
 filled-two zero t f = (omega arith, f .1)
 filled-two (suc l) t f = ((omega arith, f .0 .1), f .1)
 

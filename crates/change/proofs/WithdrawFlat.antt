@@ -1,7 +1,6 @@
 -- The slots of a tree and its points as two flat lists: no slot twice, each a slot of the table, and nothing but points. Such lists have parts, and they make a tree good. By counting. Assumes nothing.
-use Prim.Native.Nat.{ℕ, _≤_, _<_}
+use Prim.Native.Nat.{ℕ, _≤_}
 use native.Mathlib.Omega.{arith}
-use mathlib.Core.Path.{_≡_}
 use mathlib.Core.List.{List}
 use Rattle.order.specs.Lists.{count}
 use Rattle.table.specs.declared.node.Entry.{Entry}

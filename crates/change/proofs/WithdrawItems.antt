@@ -1,17 +1,15 @@
 -- The items of a tree's top node, named alike at every level: points in a leaf, trees above. What a tree is made of is then said once for all levels, each law by the two cases of the level. Assumes nothing.
-use Prim.Native.Nat.{ℕ, zero, suc, _+_, _≤_}
-use native.Mathlib.Omega.{arith}
-use mathlib.Core.Path.{_≡_, refl, sym, ap, _∙_}
-use mathlib.Core.Bool.{Bool}
-use mathlib.Core.List.{List, [], _∷_, _++_, map}
+use Prim.Native.Nat.{ℕ, zero, suc, _≤_}
+use mathlib.Core.Path.{_≡_, refl, sym, ap}
+use mathlib.Core.List.{List, [], _∷_, map, map-id}
 use lib.ListN.{length}
-use Rattle.order.specs.Lists.{count, join, All}
-use Rattle.order.proofs.Lists.{count-append, join-append, join-one}
+use Rattle.order.specs.Lists.{join, All}
+use Rattle.order.proofs.Lists.{join-one}
 use Rattle.table.specs.declared.node.Entry.{Entry}
 use Rattle.table.specs.Figures.{FAN, LEAST}
 use Rattle.table.specs.Words.{Words, partAt}
-use Rattle.table.specs.Page.{page, pageWords, coverOf}
-use Rattle.table.specs.Tree.{Bough, Tree, bough, topOf, entryOfTree, entriesOfTree, slotsOf, leavesOf, Filled, Stored}
+use Rattle.table.specs.Page.{page, pageWords}
+use Rattle.table.specs.Tree.{Tree, bough, topOf, entryOfTree, entriesOfTree, slotsOf, leavesOf, Filled, Stored}
 
 abbrev pub Item : ℕ → Type 0
 Item zero = Entry
@@ -47,10 +45,6 @@ FilledItem (suc l) t = Filled LEAST l t
 
 -- ---- lists
 
-pub map-id : {A : Type 0} (xs : List A) → map (λ x. x) xs ≡ xs
-map-id [] = refl
-map-id (x ∷ xs) = ap (λ l. x ∷ l) (map-id xs)
-
 pub join-none : {A B : Type 0} (xs : List A) → join {B = B} (λ x. []) xs ≡ []
 join-none [] = refl
 join-none (x ∷ xs) = join-none xs
@@ -72,11 +66,6 @@ tree-items (suc l) s xs = refl
 pub tree-same : (l : ℕ) (t : Tree l) → treeOf l (topOf l t) (itemsOf l t) ≡ t
 tree-same zero t = refl
 tree-same (suc l) t = refl
-
--- the entry above it
-pub entry-same : (l : ℕ) (t : Tree l) → entryOfTree l t ≡ record { reference = topOf l t; rect = coverOf (entriesOfTree l t) }
-entry-same zero t = refl
-entry-same (suc l) t = refl
 
 pub entries-items : (l : ℕ) (t : Tree l) → entriesOfTree l t ≡ map (entryOfItem l) (itemsOf l t)
 entries-items zero t = sym (map-id (t .items))

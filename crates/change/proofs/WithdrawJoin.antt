@@ -1,21 +1,20 @@
 -- Two children of one node join: what the words hold afterwards is the node with one child less, or with its two children refilled. Each page is written apart from the trees that stay. Assumes nothing.
-use Prim.Native.Nat.{ℕ, zero, suc, _+_, _≤_, _<_, _^_}
+use Prim.Native.Nat.{ℕ, suc, _+_, _≤_, _<_}
 use native.Mathlib.Omega.{arith}
-use mathlib.Core.Path.{_≡_, refl, sym, ap, subst, _∙_}
-use mathlib.Core.Bool.{Bool, true, false, cond}
-use mathlib.Core.List.{List, [], _∷_, _++_, map, append-assoc}
+use mathlib.Core.Path.{_≡_, sym, ap, subst, _∙_}
+use mathlib.Core.Bool.{Bool, cond}
+use mathlib.Core.List.{List, [], _∷_, _++_, map, map-append, append-assoc}
 use lib.Dec.{eqb, leb}
 use lib.ListN.{length, set, take, drop, length-append, length-map}
 use lib.Seq.{set-at, take-at, drop-at, getD-at}
-use borrow.Author.Tests.{eqb-true}
 use Rattle.order.specs.Lists.{one, count, join, All}
-use Rattle.order.proofs.Lists.{by-bool, by-leb, count-append, join-append, count-join, all-append}
+use Rattle.order.proofs.Lists.{by-leb, count-append, join-append, count-join, all-append}
 use Rattle.table.specs.declared.node.Entry.{Entry}
 use Rattle.table.specs.Figures.{FAN, LEAST, SLOTS, LENGTH}
 use Rattle.table.specs.Words.{Words, partAt}
 use Rattle.table.specs.Page.{page, freeWords, without, blankEntry}
 use Rattle.table.specs.Slots.{entriesAt, putPage, freed, entryFor}
-use Rattle.table.specs.Tree.{Tree, bough, topOf, entryOfTree, entriesOfTree, slotsOf, leavesOf, Filled, Stored}
+use Rattle.table.specs.Tree.{Tree, topOf, entryOfTree, slotsOf, leavesOf, Filled, Stored}
 use Rattle.table.proofs.Slots.{put-here, freed-here}
 use Rattle.audit.proofs.Joined.{all-left, all-right}
 use Rattle.audit.proofs.Reading.{stored-entries, stored-entry}
@@ -44,21 +43,7 @@ use Rattle.change.proofs.WithdrawItems.{
   node-filled,
 }
 use Rattle.change.proofs.WithdrawFlat.{Flat, flat-part, flat-good}
-use Rattle.change.proofs.WithdrawFrame.{
-  times,
-  times-self,
-  Apart,
-  Frame,
-  frame-wide,
-  frame-then,
-  put-frame,
-  freed-frame,
-  items-kept,
-  stored-kept,
-  offGrid,
-  apart-one,
-  times-one,
-}
+use Rattle.change.proofs.WithdrawFrame.{times, times-self, Frame, frame-wide, frame-then, put-frame, freed-frame, items-kept, stored-kept, offGrid, apart-one, times-one}
 
 -- ---- lists
 
@@ -72,10 +57,6 @@ module _ {A B : Type 0} (S : A → List B) (P : B → Bool) where
   pub count-two : (bs : List A) (x y : A) (zs : List A)
       → count P (join S (bs ++ x ∷ y ∷ zs)) ≡ count P (join S bs) + (count P (S x) + (count P (S y) + count P (join S zs)))
   count-two bs x y zs = omega (arith, count-mid bs x (y ∷ zs), count-append P (S y) (join S zs))
-
-pub map-append : {A B : Type 0} (f : A → B) (xs ys : List A) → map f (xs ++ ys) ≡ map f xs ++ map f ys
-map-append f [] ys = refl
-map-append f (x ∷ xs) ys = ap (λ l. f x ∷ l) (map-append f xs ys)
 
 -- one entry less
 pub without-at : (ps : List Entry) (x : Entry) (r : List Entry) (n : ℕ) → length ps ≡ n → without n (ps ++ x ∷ r) ≡ ps ++ r

@@ -2,7 +2,7 @@
 use Prim.Native.Nat.{ℕ, zero, suc, _+_, _-_, _≤_, _<_}
 use native.Mathlib.Omega.{arith}
 use mathlib.Core.Path.{_≡_, refl, sym, ap, subst, _∙_}
-use mathlib.Core.Bool.{Bool, true, false, cond, _||_}
+use mathlib.Core.Bool.{Bool, cond, _||_}
 use mathlib.Core.List.{List, [], _∷_, map}
 use lib.Dec.{eqb, ltb}
 use lib.ListN.{length}
@@ -15,7 +15,7 @@ use Rattle.table.specs.Words.{Words}
 use Rattle.table.specs.declared.node.Node.{Node}
 use Rattle.table.specs.Page.{page, held, Shows}
 use Rattle.table.specs.Slots.{pageAt, entriesAt}
-use Rattle.table.specs.Tree.{topOf, entryOfTree, entriesOfTree, leastOf}
+use Rattle.table.specs.Tree.{entryOfTree, entriesOfTree, leastOf}
 use Rattle.table.proofs.Slots.{page-few}
 use Rattle.audit.proofs.Joined.{all-map}
 use Rattle.audit.proofs.Reading.{Good, good-child, top-inside, entry-reference, stored-page, stored-child}

@@ -2,13 +2,11 @@
 use Prim.Native.Nat.{ℕ, zero, suc, _+_, _≤_, _<_}
 use native.Mathlib.Omega.{arith}
 use native.Mathlib.Nat.{le-of-suc-le-suc}
-use mathlib.Core.Path.{_≡_, sym, ap, subst}
+use mathlib.Core.Path.{_≡_, sym, ap, _∙_}
 use mathlib.Core.Bool.{Bool, true, false, cond}
 use mathlib.Core.List.{List, [], _∷_}
 use lib.ListN.{length, getD, take}
-use lib.Seq.{getD-take, length-take-le}
-use Rattle.order.specs.Lists.{firstPlace, All}
-use Rattle.order.proofs.Lists.{all-at}
+use Rattle.order.specs.Lists.{firstPlace}
 
 module _ {A : Type 0} (P : A → Bool) (d : A) where
   -- among the first c of a list
@@ -26,6 +24,6 @@ module _ {A : Type 0} (P : A → Bool) (d : A) where
       ap (λ b. cond b 0 (1 + firstPlace P (take c xs))) (below 0 (omega arith)) in
       omega arith
 
-pub all-taken : {A : Type 0} (Q : A → Type 0) (d : A) (xs : List A) (c i : ℕ) → i < c → c ≤ length xs → All Q (take c xs) → Q (getD xs i d)
-all-taken Q d xs c i h f a =
-    subst Q (getD-take c xs i d h) (all-at Q (take c xs) i d (omega (arith, length-take-le c xs f)) a)
+-- what a call said of a test
+pub seen : (r : Bool) {b v : Bool} → r ≡ b → r ≡ v → b ≡ v
+seen r e f = sym e ∙ f

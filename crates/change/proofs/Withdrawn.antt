@@ -1,37 +1,38 @@
 -- A withdrawal of a point from a table that holds a sound tree: the last point leaves the empty table, any other leaves a table that holds a sound tree of all other points. The removal from the tree, and then the cases of its top: it stays, it gives way to its one child, or nothing is left. Assumes nothing.
-use Prim.Native.Nat.{ℕ, zero, suc, _+_, _-_, _*_, _≤_, _<_}
+use Prim.Native.Nat.{ℕ, zero, suc, _+_, _-_, _≤_, _<_}
 use native.Mathlib.Omega.{arith}
 use mathlib.Core.Path.{_≡_, refl, sym, ap, subst, _∙_}
 use mathlib.Core.Logic.{⊎-elim}
 use mathlib.Core.Bool.{Bool, true, false, cond, not, _&&_, _||_}
 use mathlib.Core.List.{List, [], _∷_, _++_, map, append-nil, List·Memᴰ·head, List·Memᴰ·tail, List·Memᴰ·not-nil, List·Memᴰ·cases-cons, Memᴰ·map}
 use lib.Dec.{eqb}
-use lib.IntN.{ℤ, pos, negsuc}
-use lib.ListN.{length, set, take, drop, getD, length-append, length-map, length-set, length-drop, take-append-drop}
-use lib.Seq.{drop-drop, getD-set-same, getD-set-other}
+use lib.IntN.{pos, negsuc}
+use lib.ListN.{length, set, length-append, length-map, length-set}
+use lib.Seq.{getD-set-same, getD-set-other}
 use borrow.Author.Tests.{eqb-true, eqb-false, eq-eqb, ne-eqb}
-use Rattle.order.specs.Lists.{one, count, some, join, Mem, All, NoDup}
+use Rattle.order.specs.Lists.{one, some, join, Mem, All, NoDup}
 use Rattle.order.specs.Order.{Perm}
 use Rattle.order.proofs.Perm.{psym, perm-length, perm-map, perm-mem}
-use Rattle.order.proofs.Lists.{by-bool, by-leb, count-append, perm-count, perm-nodup}
+use Rattle.order.proofs.Lists.{by-bool, by-leb, count-append, perm-count, all-mem, all-at, perm-nodup}
 use Rattle.table.specs.declared.node.Entry.{Entry}
-use Rattle.table.specs.Figures.{FAN, LEAST, SLOTS, WIDTH, LENGTH}
-use Rattle.table.specs.Words.{Words, word, rootOf, pointsOf, partAt}
-use Rattle.table.specs.Page.{freeWords}
-use Rattle.table.specs.Empty.{freeSlots, emptyTable}
-use Rattle.table.specs.Slots.{levelAt, entriesAt, freed, withRoot, withPoints}
-use Rattle.table.specs.Tree.{Tree, bough, topOf, entryOfTree, entriesOfTree, slotsOf, leavesOf, leastOf, Filled, Stored, Sound, Holds}
-use Rattle.table.proofs.Slots.{header-part, freed-here, freed-other, freed-long, freed-header}
-use Rattle.audit.proofs.Joined.{}
+use Rattle.table.specs.Figures.{LEAST, SLOTS, LENGTH}
+use Rattle.table.specs.Words.{Words, word, pointsOf, partAt}
+use Rattle.table.specs.Page.{freeWords, blankEntry}
+use Rattle.table.specs.Empty.{emptyTable}
+use Rattle.table.specs.Slots.{levelAt, entriesAt, freed, withPoints}
+use Rattle.table.specs.Tree.{Tree, topOf, entryOfTree, entriesOfTree, slotsOf, leavesOf, leastOf, Filled, Stored, Sound, Holds}
+use Rattle.table.proofs.Slots.{header-part, freed-here, freed-other, freed-long}
+use Rattle.audit.proofs.Joined.{all-map}
 use Rattle.audit.proofs.Counted.{number-missing, number-counted}
+use Rattle.audit.proofs.EmptyTable.{blank-empty}
 use Rattle.audit.proofs.Size.{some-leaf}
-use Rattle.audit.proofs.Reading.{Good, good-root, good-child, entry-reference, stored-entries, stored-level, stored-child, stored-frame, held-root, held-points}
+use Rattle.audit.proofs.Reading.{Good, good-root, good-child, top-inside, entry-reference, stored-entries, stored-level, stored-child, stored-frame, held-root, held-points}
 use Rattle.change.specs.Choose.{entryIn}
-use Rattle.change.specs.Withdraw.{holds, removed, emptied, givenWay, lowered, withdrawn}
+use Rattle.change.specs.Withdraw.{holds, removed, emptied, givenWay, lowered, withdrawn, Lowerable}
 use Rattle.change.proofs.EnrolCounts.{counts-perm}
 use Rattle.change.proofs.WithdrawItems.{itemsOf, entryOfItem, entries-items, slots-items, node-filled, filled-node, tree-same}
-use Rattle.change.proofs.WithdrawFrame.{times, times-self, times-other, offGrid}
-use Rattle.change.proofs.WithdrawFlat.{Flat, flat-part, flat-good, good-flat}
+use Rattle.change.proofs.WithdrawFrame.{times, times-self, offGrid}
+use Rattle.change.proofs.WithdrawFlat.{flat-part, flat-good, good-flat}
 use Rattle.change.proofs.WithdrawCut.{some-map, Ready, filled-least, Cut, removal}
 
 -- ---- a number stands below a slot exactly if a leaf there has it
@@ -70,34 +71,6 @@ holds-leaves {l = suc l} {t = t} ws n g st =
     ∙ some-map (entryOfTree l) (λ e. holds l ws (e .reference) n) (t .items)
     ∙ some-join (λ c. holds l ws (entryOfTree l c .reference) n) (leavesOf l) (λ e. eqb (e .reference) n) (t .items)
     (λ c m. ap (λ o. holds l ws o n) (entry-reference l c) ∙ holds-leaves ws n (good-child g m) (stored-child ws l t st m))
-
--- ---- the empty table
-
-empty-list : {A : Type 0} (xs : List A) → length xs ≡ 0 → xs ≡ []
-empty-list [] h = refl
-empty-list (x ∷ xs) h = absurd (omega arith)
-
-parts-free : (n : ℕ) (xs : Words) → length xs ≡ WIDTH * n → ((s : ℕ) → s < n → take WIDTH (drop (WIDTH * s) xs) ≡ freeWords) → xs ≡ freeSlots n
-parts-free zero xs h f = empty-list xs (omega arith)
-parts-free (suc n) xs h f =
-    let a : take WIDTH xs ≡ freeWords = f 0 (omega arith) in
-    let b : drop WIDTH xs ≡ freeSlots n =
-    parts-free n (drop WIDTH xs) (omega (arith, length-drop WIDTH xs))
-    (λ s k. let e : WIDTH + WIDTH * s ≡ WIDTH * suc s = omega arith in
-    ap (take WIDTH) (drop-drop (WIDTH * s) WIDTH xs ∙ ap (λ m. drop m xs) e) ∙ f (suc s) (omega arith)) in
-    sym (take-append-drop WIDTH xs) ∙ cc
-
-two-words : (ws : Words) → 2 ≤ length ws → ws ≡ word ws 0 ∷ word ws 1 ∷ drop 2 ws
-two-words [] h = absurd (omega arith)
-two-words (a ∷ []) h = absurd (omega arith)
-two-words (a ∷ b ∷ ws) h = refl
-
-pub empty-table : (ws : Words) → length ws ≡ LENGTH → word ws 0 ≡ negsuc 0 → word ws 1 ≡ pos 0 → ((s : ℕ) → s < SLOTS → partAt ws s ≡ freeWords) → ws ≡ emptyTable
-unfolding emptyTable partAt
-empty-table ws long a b f =
-    let c : drop 2 ws ≡ freeSlots SLOTS =
-    parts-free SLOTS (drop 2 ws) (omega (arith, length-drop 2 ws)) (λ s k. ap (take WIDTH) (drop-drop (WIDTH * s) 2 ws) ∙ f s k) in
-    two-words ws (omega arith) ∙ cc
 
 -- ---- what is left of a sound tree
 
@@ -148,6 +121,13 @@ module _ (ws : Words) (l : ℕ) (t : Tree l) (long : length ws ≡ LENGTH) (root
 
 -- ---- the withdrawal
 
+first-inside : {lo : ℕ} (l : ℕ) (t : Tree l) → Good lo l t → 0 < l → 1 ≤ length (entriesOfTree l t) → entryIn (entriesOfTree l t) 0 .reference < SLOTS
+first-inside zero t g h k = absurd (omega arith)
+first-inside (suc l) t g h k =
+    all-at (λ e. e .reference < SLOTS) (map (entryOfTree l) (t .items)) 0 blankEntry k
+    (all-map (λ e. e .reference < SLOTS) (entryOfTree l) (t .items)
+    (all-mem (λ c. entryOfTree l c .reference < SLOTS) (t .items) (λ c m. omega (arith, entry-reference l c, top-inside (good-child g m)))))
+
 pub record Withdrawn (l : ℕ) (t : Tree l) (e : Entry) (after : Words) : Type 0 where
   pub level : ℕ
   pub tree : Tree level
@@ -166,7 +146,7 @@ module _ (ws : Words) (l : ℕ) (t : Tree l) (held : Holds ws l t) (sound : Soun
     abbrev after : Words
     after = removed l ws (topOf l t) n
 
-    found : holds l ws (topOf l t) n ≡ true
+    pub found : holds l ws (topOf l t) n ≡ true
     found = holds-leaves ws n (good-root sound) (held .stored) ∙ mem-some (λ x. eqb (x .reference) n) (leavesOf l t) m (eq-eqb (e .reference) n is)
 
     cut : Cut l ws t n after
@@ -223,6 +203,16 @@ module _ (ws : Words) (l : ℕ) (t : Tree l) (held : Holds ws l t) (sound : Soun
     rest-level : levelAt after s ≡ l
     rest-level = ap (levelAt after) (sym (cut .top)) ∙ stored-level after rest-good (cut .stored)
 
+    -- a root above the leaves has its children in slots
+    pub root-lowerable : Lowerable after s
+    root-lowerable = record {
+      long = after-long;
+      inside = s-low;
+      child = λ h k.
+          let q : entriesAt after s ≡ entriesOfTree l rest = ap (entriesAt after) (sym (cut .top)) ∙ stored-entries after rest-good (cut .stored) in
+          subst (λ es. entryIn es 0 .reference < SLOTS) (sym q) (first-inside l rest rest-good (omega (arith, rest-level)) (omega (arith, ap length q)));
+    }
+
     points-left : pointsOf ws - 1 ≡ length (leavesOf l rest)
     points-left = omega (arith, held-points held, perm-length rest-perm)
 
@@ -263,16 +253,19 @@ module _ (ws : Words) (t : Tree zero) (held : Holds ws zero t) (sound : Sound ze
       let long : length f ≡ LENGTH = freed-long a (t .slot) k low ∙ k in
       let r = set f 0 (negsuc 0) in
       let long′ : length r ≡ LENGTH = length-set f 0 (negsuc 0) ∙ long in
-      empty-table (set r 1 (pos 0)) (length-set r 1 (pos 0) ∙ long′)
-      (getD-set-other r 1 0 (pos 0) (pos 0) (λ z. omega arith) ∙ getD-set-same f 0 (negsuc 0) (pos 0) (omega arith))
-      (getD-set-same r 1 (pos 0) (pos 0) (omega arith))
-      (λ o h.
-      header-part r 1 (pos 0) (omega arith) o ∙ header-part f 0 (negsuc 0) (omega arith) o
-      ∙ by-bool (λ b. eqb o (t .slot) ≡ b → partAt f o ≡ freeWords) (eqb o (t .slot))
-      (λ y z. subst (λ x. partAt f x ≡ freeWords) (sym (eqb-true o (t .slot) y)) (freed-here a (t .slot) k low))
-      (λ y z.
-      freed-other a (t .slot) k low o (eqb-false o (t .slot) y)
-      ∙ elsewhere ws zero t held sound e n m is o h (omega (arith, ap one (ap (eqb o) (c .top) ∙ y)))) refl)
+      blank-empty
+      (record {
+        long = length-set r 1 (pos 0) ∙ long′;
+        first = getD-set-other r 1 0 (pos 0) (pos 0) (λ z. omega arith) ∙ getD-set-same f 0 (negsuc 0) (pos 0) (omega arith);
+        second = getD-set-same r 1 (pos 0) (pos 0) (omega arith);
+        frees = λ o h.
+            header-part r 1 (pos 0) (omega arith) o ∙ header-part f 0 (negsuc 0) (omega arith) o
+            ∙ by-bool (λ b. eqb o (t .slot) ≡ b → partAt f o ≡ freeWords) (eqb o (t .slot))
+            (λ y z. subst (λ x. partAt f x ≡ freeWords) (sym (eqb-true o (t .slot) y)) (freed-here a (t .slot) k low))
+            (λ y z.
+            freed-other a (t .slot) k low o (eqb-false o (t .slot) y)
+            ∙ elsewhere ws zero t held sound e n m is o h (omega (arith, ap one (ap (eqb o) (c .top) ∙ y)))) refl;
+      })
 
 two-leaves : (l : ℕ) (xs : List (Tree l)) → 2 ≤ length xs → All (Filled LEAST l) xs → 2 ≤ length (join (leavesOf l) xs)
 two-leaves l [] h f = absurd (omega arith)

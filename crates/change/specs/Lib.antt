@@ -2,5 +2,5 @@ pub mod Choose
 pub mod Share
 pub mod Planted
 pub mod Enrol
-pub mod Withdraw
 pub mod Within
+pub mod Withdraw

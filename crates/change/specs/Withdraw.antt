@@ -1,18 +1,22 @@
 -- 01, "Withdrawal": a granted withdrawal, word by word.
-use Prim.Native.Nat.{ℕ, zero, suc, _+_, _-_, _≤_, _<_}
+use Prim.Native.Nat.{ℕ, zero, suc, _+_, _-_, _≤_, _<_, _^_}
 use mathlib.Core.Path.{_≡_}
 use mathlib.Core.Bool.{Bool, true, cond, not, _&&_}
-use mathlib.Core.List.{List, [], _∷_, _++_, map}
+use mathlib.Core.List.{List, _++_, map}
 use lib.Dec.{eqb, leb, ltb}
-use lib.IntN.{ℤ, pos, negsuc}
+use lib.IntN.{pos, negsuc}
 use lib.ListN.{length, set}
+use Rattle.grid.specs.Word.{IsWord}
 use Rattle.grid.specs.Place.{RectOnGrid}
 use Rattle.order.specs.Lists.{firstPlace, has, some, All, NoDup}
 use Rattle.table.specs.declared.node.Entry.{Entry}
 use Rattle.table.specs.Figures.{FAN, LEAST, SLOTS, LENGTH}
 use Rattle.table.specs.Words.{Words, rootOf, pointsOf}
-use Rattle.table.specs.Page.{Page, page, EntryFits, PageFits, without}
+use Rattle.table.specs.declared.node.Node.{Node}
+use Rattle.table.specs.Page.{Page, page, held, EntryFits, PageFits, without}
 use Rattle.table.specs.Slots.{levelAt, entriesAt, putPage, freed, entryFor, withRoot, withPoints}
+use Rattle.table.specs.Stations.{stations}
+use Rattle.table.specs.Rules.{wellFormed}
 use Rattle.change.specs.Choose.{entryIn}
 use Rattle.change.specs.Share.{firstShare, otherShare}
 use Rattle.change.specs.Planted.{Planted}
@@ -34,12 +38,14 @@ merged ws s l es a joint =
     let now = freed (putPage ws c (page l joint)) d in
     putPage now s (page (suc l) (without (a + 1) (tightAt now es a)))
 
+-- the first share to one slot, the rest to another
+abbrev pub sharedOut : Words → ℕ → ℕ → ℕ → List Entry → Words
+sharedOut ws c d l joint = putPage (putPage ws c (page l (firstShare joint))) d (page l (otherShare joint))
+
 -- nine or ten are shared, the first share to the lower-placed node, the rest to the other
 abbrev pub shared : Words → ℕ → ℕ → List Entry → ℕ → List Entry → Words
 shared ws s l es a joint =
-    let c = entryIn es a .reference in
-    let d = entryIn es (a + 1) .reference in
-    let now = putPage (putPage ws c (page l (firstShare joint))) d (page l (otherShare joint)) in
+    let now = sharedOut ws (entryIn es a .reference) (entryIn es (a + 1) .reference) l joint in
     putPage now s (page (suc l) (tightAt now (tightAt now es a) (a + 1)))
 
 -- the children at places a and a + 1 join: the lower-placed node's entries, then the other's
@@ -121,8 +127,25 @@ pub record Joinable (ws : Words) (s : ℕ) (p : Page) (a : ℕ) : Type 0 where
   pub next : a + 1 < length (p .entries)
   pub most : length (jointAt ws (p .entries) a) ≤ 10
 
+-- up to ten entries, each of which a slot can hold, on the grid; and two slots
+pub record MayShare (ws : Words) (c d : ℕ) (n : Node) : Type 0 where
+  pub long : length ws ≡ LENGTH
+  pub first : c < SLOTS
+  pub other : d < SLOTS
+  pub level : n .level < 2 ^ 31
+  pub ten : n .count ≤ 10
+  pub fits : All EntryFits (held n)
+  pub grid : All (λ e. RectOnGrid (e .rect)) (held n)
+
 -- the root after a removal: if it is to give way, then to a slot
 pub record Lowerable (ws : Words) (s : ℕ) : Type 0 where
   pub long : length ws ≡ LENGTH
   pub inside : s < SLOTS
   pub child : 0 < levelAt ws s → length (entriesAt ws s) ≡ 1 → entryIn (entriesAt ws s) 0 .reference < SLOTS
+
+-- what 01 asks before a withdrawal is granted: a well-formed table, and a point that is enrolled
+pub record MayWithdraw (ws : Words) (n : ℕ) : Type 0 where
+  pub long : length ws ≡ LENGTH
+  pub words : All IsWord ws
+  pub good : wellFormed ws ≡ true
+  pub enrolled : has n (map (λ p. p .number) (stations ws)) ≡ true

@@ -4,18 +4,20 @@ use mathlib.Core.Path.{_≡_}
 use mathlib.Core.Bool.{true}
 use mathlib.Core.List.{List, [], _∷_}
 use lib.ListN.{length}
+use Rattle.grid.specs.Word.{IsWord}
 use Rattle.grid.specs.Place.{RectOnGrid}
-use Rattle.order.specs.Lists.{count, All, NoDup}
+use Rattle.order.specs.Lists.{count, All}
 use Rattle.table.specs.declared.node.Entry.{Entry}
 use Rattle.table.specs.declared.node.Node.{Node}
 use Rattle.table.specs.Figures.{SLOTS, LENGTH}
 use Rattle.table.specs.Words.{Words}
 use Rattle.table.specs.Page.{held, EntryFits}
-use Rattle.table.specs.Slots.{slots, isFree, lowestFree}
-use Rattle.table.specs.Rules.{isPoint}
-use Rattle.table.specs.Tree.{Tree, topOf, slotsOf, leavesOf, Filled, Stored}
+use Rattle.table.specs.Slots.{slots, isFree, lowestFree, entryFor}
+use Rattle.table.specs.Rules.{isPoint, wellFormed}
+use Rattle.table.specs.Tree.{Tree, Sound, Holds}
 use Rattle.change.specs.declared.enrol.Up.{Up}
 use Rattle.change.specs.declared.enrol.Up.the-variants.{Same, New}
+use Rattle.change.specs.Planted.{Planted}
 use Rattle.change.specs.Enrol.{Grown}
 
 -- the entry of a new node, if one was made
@@ -40,19 +42,31 @@ pub record MaySettle (ws : Words) (s : ℕ) (n : Node) : Type 0 where
 unfoldable pub freeCount : Words → ℕ
 freeCount ws = count (isFree ws) slots
 
--- The node in slot s is the top of a tree of level l that may stand in a sound tree, and a slot is free for a new node on each of its levels.
+-- a tree stands below slot s, and a slot is free for a new node on each of its levels
 pub record MayInsert (l : ℕ) (ws : Words) (s : ℕ) (e : Entry) : Type 0 where
-  pub tree : Tree l
-  pub least : ℕ
-  pub top : topOf l tree ≡ s
-  pub some : 1 ≤ least
-  pub four : least ≤ 4
-  pub low : l ≤ 5
-  pub fill : Filled least l tree
-  pub apart : NoDup (slotsOf l tree)
-  pub inside : All (λ o. o < SLOTS) (slotsOf l tree)
-  pub points : All (λ p. isPoint p ≡ true) (leavesOf l tree)
-  pub stored : Stored l ws tree
-  pub long : length ws ≡ LENGTH
+  pub planted : Planted l ws s
   pub room : suc l ≤ freeCount ws
+  pub point : isPoint e ≡ true
+
+-- the node in slot s is the root, of level l; it may have got a sibling
+pub record MayRaise (ws : Words) (s l : ℕ) : Type 0 where
+  pub long : length ws ≡ LENGTH
+  pub low : s < SLOTS
+  pub level : l ≤ 5
+  pub old : EntryFits (entryFor ws s)
+  pub room : lowestFree ws < SLOTS
+
+-- the table holds a sound tree
+pub record MayGrow (ws : Words) (e : Entry) : Type 0 where
+  pub level : ℕ
+  pub tree : Tree level
+  pub holds : Holds ws level tree
+  pub sound : Sound level tree
+  pub point : isPoint e ≡ true
+
+-- a table of words that is well formed, and a point
+pub record MayEnrol (ws : Words) (e : Entry) : Type 0 where
+  pub long : length ws ≡ LENGTH
+  pub fits : All IsWord ws
+  pub good : wellFormed ws ≡ true
   pub point : isPoint e ≡ true

@@ -31,7 +31,8 @@ use Rattle.audit.proofs.Held.{held-stations}
 use Rattle.audit.proofs.WellFormed.{Held, empty-stations}
 use Rattle.change.specs.Enrol.{enrolled}
 use Rattle.change.specs.Withdraw.{withdrawn}
-use Rattle.change.proofs.Enrolled.{enrolled-holds, first-sound, first-holds, empty-bare}
+use Rattle.audit.proofs.EmptyTable.{empty-blank}
+use Rattle.change.proofs.Enrolled.{enrolled-holds, first-sound, first-holds}
 use Rattle.change.proofs.Withdrawn.{mem-some, withdrawn-last, withdrawn-tree}
 use Rattle.filter.proofs.Rising.{perm-filter}
 use Rattle.filter.proofs.Meaning.{filter-all}
@@ -104,8 +105,8 @@ module _ (n : ℤ) (p : Site) where
       (record {
         level = 0;
         tree = bough 0 (new ∷ []);
-        holds = first-holds emptyTable new empty-bare point;
-        sound = first-sound emptyTable new empty-bare point;
+        holds = first-holds emptyTable new empty-blank point;
+        sound = first-sound emptyTable new empty-blank point;
       })
       new [] (stations emptyTable) (prefl (new ∷ [])) (subst (λ ps. Perm ps []) (sym empty-stations) pnil))
       (λ us h g.
