@@ -10,12 +10,13 @@ use lib.ListN.{length, length-set}
 use lib.Seq.{getD-set-same, getD-set-other}
 use Rattle.order.specs.Lists.{Mem}
 use Rattle.order.specs.Order.{Perm}
-use Rattle.order.proofs.Perm.{psym, perm-length, perm-map}
+use Rattle.order.proofs.Perm.{prefl, psym, perm-length, perm-map}
 use Rattle.order.proofs.Lists.{length-filter, all-mem, perm-nodup}
 use Rattle.table.specs.declared.node.Entry.{Entry}
 use Rattle.table.specs.Figures.{FAN, MOST, SLOTS, LENGTH}
 use Rattle.table.specs.Words.{Words, pointsOf, partAt}
 use Rattle.table.specs.Page.{page}
+use Rattle.table.specs.Empty.{emptyTable}
 use Rattle.table.specs.Slots.{slots, isFree, putPage, entryFor, withRoot, withPoints}
 use Rattle.table.specs.Rules.{isPoint}
 use Rattle.table.specs.Tree.{Tree, bough, topOf, slotsOf, leavesOf, leastOf, Sound, Holds}
@@ -25,6 +26,7 @@ use Rattle.audit.proofs.Size.{sound-bounds}
 use Rattle.audit.proofs.Reading.{good-root, least-some, held-root, held-points, stored-level, stored-entry}
 use Rattle.audit.proofs.Held.{eight-free, not-empty}
 use Rattle.audit.proofs.EmptyTable.{Blank, blank-is-empty}
+pub use Rattle.audit.proofs.EmptyTable.{empty-blank as empty-bare}
 use Rattle.change.specs.Within.{freeCount}
 use Rattle.change.specs.Enrol.{inserted, rooted, nextEnrolled, firstEnrolled, enrolled}
 use Rattle.change.proofs.WithdrawFrame.{times, offGrid}
@@ -147,3 +149,12 @@ module _ (ws : Words) (e : Entry) (blank : Blank ws) (point : isPoint e ≡ true
         others = λ s low m.
             part s ∙ put-other ws 0 p (blank .long) (omega arith) few s (λ z. m (List·Memᴰ·head z)) ∙ blank .frees s low;
       })
+
+pub empty-enrolled : (e : Entry) → isPoint e ≡ true → Enrolment [] e (enrolled emptyTable e)
+empty-enrolled e point = record {
+  level = 0;
+  tree = bough 0 (e ∷ []);
+  holds = first-holds emptyTable e empty-bare point;
+  sound = first-sound emptyTable e empty-bare point;
+  points = prefl (e ∷ []);
+}

@@ -149,7 +149,7 @@ module _ {ws : Words} {e : Entry} (may : MayEnrol ws e) where
       eqb-true (pointsOf ws) 0 (and-left b d (and-right a (b && d) h))
 
   holding : isEmpty ws ≡ false → Held ws
-  holding = well-formed-tree ws (may .long) (may .fits) (may .good)
+  holding = well-formed-tree ws (may .long) (may .words) (may .good)
 
   -- a table that holds a tree has a point
   held-some : Held ws → 1 ≤ pointsOf ws

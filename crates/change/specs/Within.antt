@@ -67,6 +67,6 @@ pub record MayGrow (ws : Words) (e : Entry) : Type 0 where
 -- a table of words that is well formed, and a point
 pub record MayEnrol (ws : Words) (e : Entry) : Type 0 where
   pub long : length ws ≡ LENGTH
-  pub fits : All IsWord ws
+  pub words : All IsWord ws
   pub good : wellFormed ws ≡ true
   pub point : isPoint e ≡ true

@@ -4,3 +4,6 @@ pub mod Passing
 pub mod Kept
 pub mod Finds
 pub mod Demands
+pub mod CallTests
+pub mod CallOrder
+pub mod CallNumbers

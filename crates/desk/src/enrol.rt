@@ -1,0 +1,77 @@
+// Enrolment, with its refusals in document 01's order: 1, 2, 3, 4, 6, 7.
+ghost use mathlib.Core.Path.{_≡_};
+ghost use mathlib.Core.Bool.{true};
+ghost use lib.ListN.{length};
+ghost use Rattle.table.specs.Figures.{LENGTH};
+ghost use Rattle.table.specs.Rules.{wellFormed};
+ghost use Rattle.desk.specs.Refusals.{site, enrolGives};
+ghost use Rattle.desk.specs.Calls.{pointEntry, afterEnrol};
+use crate::refuse;
+use crate::words::are_words;
+use audit::check;
+use change::enrol::enrol_in;
+use grid::border;
+use grid::place::Place;
+use table::given::Given;
+use table::node::Entry;
+
+// The entry that a leaf has for a point.
+fn point_entry(number: i32, x: i32, y: i32) -> Entry
+    ensures { λ r. ⌜ r ≡ pointEntry number (site x y) ⌝ }
+{
+    let p = Place {
+        x: border::steps(x),
+        y: border::steps(y),
+    };
+    Entry {
+        reference: border::natural(number),
+        rect: p.spot(),
+    }
+}
+
+// What an enrolment gives on a table that passes the check: 3, 4, 6, 7.
+fn enrol_given(table: &[i32], number: i32, x: i32, y: i32) -> Given
+    requires { ⌜ (length (now table) ≡ LENGTH) × (wellFormed (now table) ≡ true) ⌝ }
+    ensures { λ r. ⌜ r ≡ enrolGives (now (table .entry)) number (site x y) ⌝ }
+{
+    if refuse::no_such_number(number) {
+        return Given::NoSuchNumber;
+    }
+    if refuse::off_grid(x, y) {
+        return Given::OffGrid;
+    }
+    if refuse::is_enrolled(table, number) {
+        return Given::AlreadyEnrolled;
+    }
+    if refuse::is_full(table) {
+        return Given::Full;
+    }
+    Given::Done
+}
+
+// Enrols on a table that passes the check. Who knows that it passes, as the job sheet does, pays for no check.
+pub fn enrol_passing(table: &mut [i32], number: i32, x: i32, y: i32) -> Given
+    requires { ⌜ (length (now table) ≡ LENGTH) × (wellFormed (now table) ≡ true) ⌝ }
+    ensures given { λ r. ⌜ r ≡ enrolGives (now (table .entry)) number (site x y) ⌝ }
+    ensures words { λ _. ⌜ now (table .exit) ≡ afterEnrol (now (table .entry)) number (site x y) ⌝ }
+{
+    are_words(table);
+    let given = enrol_given(table, number, x, y);
+    let Given::Done = given else {
+        return given;
+    };
+    enrol_in(table, point_entry(number, x, y));
+    given
+}
+
+// Enrols a point at a place.
+pub fn enrol(table: &mut [i32], number: i32, x: i32, y: i32) -> Given
+    ensures given { λ r. ⌜ r ≡ enrolGives (now (table .entry)) number (site x y) ⌝ }
+    ensures words { λ _. ⌜ now (table .exit) ≡ afterEnrol (now (table .entry)) number (site x y) ⌝ }
+{
+    let given = check(table);
+    let Given::Done = given else {
+        return given;
+    };
+    enrol_passing(table, number, x, y)
+}

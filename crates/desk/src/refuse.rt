@@ -1,0 +1,98 @@
+// The lines of document 01's table of refusals that speak of what is asked, and of what the table holds.
+ghost use mathlib.Core.Path.{_≡_};
+ghost use Prim.Native.Nat.{_≤_, _<_};
+ghost use mathlib.Core.List.{map};
+ghost use lib.ListN.{length};
+ghost use Rattle.order.specs.Lists.{has};
+ghost use Rattle.table.specs.Figures.{SLOTS, LENGTH};
+ghost use Rattle.table.specs.Page.{held};
+ghost use Rattle.table.specs.Rules.{numbersAt};
+ghost use Rattle.desk.specs.Refusals.{site, noSuchNumber, offGrid, noSuchK, isEnrolled, isFull};
+use grid::border;
+use table::figures::Table;
+use table::node::Node;
+use table::slot;
+
+// 3: point number outside 1 to 9,999.
+pub fn no_such_number(number: i32) -> bool
+    ensures { λ r. ⌜ r ≡ noSuchNumber number ⌝ }
+{
+    let n = border::natural(number);
+    if n < 1 {
+        return true;
+    }
+    Table::HIGHEST < n
+}
+
+// 4: a coordinate off the grid.
+pub fn off_grid(x: i32, y: i32) -> bool
+    ensures { λ r. ⌜ r ≡ offGrid (site x y) ⌝ }
+{
+    if !border::on_grid(x) {
+        return true;
+    }
+    !border::on_grid(y)
+}
+
+// 5: k outside 1 to 16.
+pub fn no_such_k(k: i32) -> bool
+    ensures { λ r. ⌜ r ≡ noSuchK k ⌝ }
+{
+    let n = border::natural(k);
+    if n < 1 {
+        return true;
+    }
+    16 < n
+}
+
+// Whether an entry of a leaf is the point of a number.
+fn refers(leaf: Node, number: usize) -> bool
+    requires { ⌜ leaf .count ≤ 10 ⌝ }
+    ensures { λ r. ⌜ r ≡ has number (map (λ e. e .reference) (held leaf)) ⌝ }
+{
+    let count = leaf.count;
+    let mut i = 0;
+    while i < count {
+        let e = leaf.entries[i];
+        if e.reference == number {
+            return true;
+        }
+        i += 1;
+    }
+    false
+}
+
+// Whether a number stands in a slot. A free slot has level −1, so it is no leaf.
+fn stands_in(table: &[i32], slot: usize, number: usize) -> bool
+    requires { ⌜ (length (now table) ≡ LENGTH) × (slot < SLOTS) ⌝ }
+    ensures { λ r. ⌜ r ≡ has number (numbersAt (now (table .entry)) slot) ⌝ }
+{
+    if slot::level_at(table, slot) != 0 {
+        return false;
+    }
+    refers(slot::node_at(table, slot), number)
+}
+
+// 6 and 8: whether the number is enrolled.
+pub fn is_enrolled(table: &[i32], number: i32) -> bool
+    requires { ⌜ length (now table) ≡ LENGTH ⌝ }
+    ensures { λ r. ⌜ r ≡ isEnrolled (now (table .entry)) number ⌝ }
+{
+    let n = border::natural(number);
+    let mut slot = 0;
+    while slot < Table::SLOTS {
+        if stands_in(table, slot, n) {
+            return true;
+        }
+        slot += 1;
+    }
+    false
+}
+
+// 7: 500 points enrolled.
+pub fn is_full(table: &[i32]) -> bool
+    requires { ⌜ length (now table) ≡ LENGTH ⌝ }
+    ensures { λ r. ⌜ r ≡ isFull (now (table .entry)) ⌝ }
+{
+    Table::MOST <= slot::points_of(table)
+}

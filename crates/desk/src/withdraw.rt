@@ -1,0 +1,55 @@
+// Withdrawal, with its refusals in document 01's order: 1, 2, 3, 8.
+ghost use mathlib.Core.Path.{_≡_};
+ghost use mathlib.Core.Bool.{true};
+ghost use lib.ListN.{length};
+ghost use Rattle.table.specs.Figures.{LENGTH};
+ghost use Rattle.table.specs.Rules.{wellFormed};
+ghost use Rattle.desk.specs.Refusals.{withdrawGives};
+ghost use Rattle.desk.specs.Calls.{afterWithdraw};
+use crate::refuse;
+use crate::words::are_words;
+use audit::check;
+use change::withdraw::withdraw_in;
+use grid::border;
+use table::given::Given;
+
+// What a withdrawal gives on a table that passes the check: 3, 8.
+fn withdraw_given(table: &[i32], number: i32) -> Given
+    requires { ⌜ (length (now table) ≡ LENGTH) × (wellFormed (now table) ≡ true) ⌝ }
+    ensures { λ r. ⌜ r ≡ withdrawGives (now (table .entry)) number ⌝ }
+{
+    if refuse::no_such_number(number) {
+        return Given::NoSuchNumber;
+    }
+    if !refuse::is_enrolled(table, number) {
+        return Given::NotEnrolled;
+    }
+    Given::Done
+}
+
+// Withdraws from a table that passes the check, without a check.
+pub fn withdraw_passing(table: &mut [i32], number: i32) -> Given
+    requires { ⌜ (length (now table) ≡ LENGTH) × (wellFormed (now table) ≡ true) ⌝ }
+    ensures given { λ r. ⌜ r ≡ withdrawGives (now (table .entry)) number ⌝ }
+    ensures words { λ _. ⌜ now (table .exit) ≡ afterWithdraw (now (table .entry)) number ⌝ }
+{
+    are_words(table);
+    let given = withdraw_given(table, number);
+    let Given::Done = given else {
+        return given;
+    };
+    withdraw_in(table, border::natural(number));
+    given
+}
+
+// Withdraws the point with a number.
+pub fn withdraw(table: &mut [i32], number: i32) -> Given
+    ensures given { λ r. ⌜ r ≡ withdrawGives (now (table .entry)) number ⌝ }
+    ensures words { λ _. ⌜ now (table .exit) ≡ afterWithdraw (now (table .entry)) number ⌝ }
+{
+    let given = check(table);
+    let Given::Done = given else {
+        return given;
+    };
+    withdraw_passing(table, number)
+}
