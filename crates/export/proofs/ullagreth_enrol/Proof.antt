@@ -1,0 +1,34 @@
+-- `export::ullagreth_enrol` hands on what the enrolment gives, by its number. Assumes nothing.
+use mathlib.Core.Path.{_≡_, ap, _∙_}
+use lib.IntN.{ℤ}
+use Rattle.table.specs.Given.{numberGiven}
+use Rattle.desk.specs.Refusals.{site, enrolGives}
+use Rattle.desk.specs.Calls.{afterEnrol}
+use Rattle.desk.proofs.CallTests.{three-passed}
+use borrow.Author.Needs.{needs}
+use Rattle.export.proofs.ullagreth_enrol.Statement.{statement}
+use Rattle.export.proofs.ullagreth_enrol.Tie as tie
+
+enrol-requires : tie.Need-enrol-requires
+enrol-requires c κs = search needs
+
+number-given-requires : tie.Need-number-given-requires
+number-given-requires c κs = search needs
+
+same-length : tie.Need-same-length
+same-length c = search needs
+
+returns : tie.Need-returns
+returns c =
+    let s = c .before .before .before .before in
+    let a = s .args in
+    let ws = a .table .now in
+    let r = c .before .before .enrol .ensures in (
+      c .number-given .ensures
+          ∙ ap numberGiven (three-passed (λ n x y. enrolGives ws n (site x y)) (a .number) (a .x) (a .y) (s .fits .number) (s .fits .x) (s .fits .y) (r .0)),
+      three-passed (λ n x y. afterEnrol ws n (site x y)) (a .number) (a .x) (a .y) (s .fits .number) (s .fits .x) (s .fits .y) (r .1),
+    )
+
+pub ullagreth-enrol-spec : {M : Type 1} → statement M
+ullagreth-enrol-spec =
+    tie.close (tie.spec enrol-requires number-given-requires same-length returns)
