@@ -1,12 +1,15 @@
 //! Compares the proved library with the second implementation, word by word.
 //! `compare check|changes|queries SEEDS` runs that many seeds and says how many calls agreed; `compare bench` measures.
+//! Built with `--cfg query` once the library exports the query.
 
 mod check;
 mod library;
+#[cfg(query)]
 mod query;
 mod random;
 mod table;
 
+#[cfg(query)]
 use library::Lists;
 use random::Random;
 use std::time::Instant;
@@ -18,6 +21,7 @@ fn main() {
     match args.get(1).map(String::as_str) {
         Some("check") => checks(seeds),
         Some("changes") => changes(seeds),
+        #[cfg(query)]
         Some("queries") => queries(seeds),
         Some("bench") => bench(),
         _ => {
@@ -77,8 +81,21 @@ fn checks(seeds: u64) {
 
 // ---- enrolments and withdrawals: every word after every call
 
+/// Document 01's nine points: number i at (10 × (i − 1), 0), enrolled in order.
+fn nine() -> u64 {
+    let mut t = Table::new();
+    let mut w = t.words();
+    for i in 0..9 {
+        assert_eq!((library::enrol(&mut w, i + 1, 10 * i, 0), t.enrol(i + 1, 10 * i, 0)), (0, 0));
+        assert!(w == t.words());
+    }
+    let held = |s: usize| (0..w[3 + 42 * s] as usize).map(|i| w[4 + 42 * s + 5 * i]).collect::<Vec<i32>>();
+    assert_eq!((held(0), held(1), w[0]), (vec![1, 2, 3, 4], vec![5, 6, 7, 8, 9], 2));
+    9
+}
+
 fn changes(seeds: u64) {
-    let mut calls = 0u64;
+    let mut calls = nine();
     for seed in 0..seeds {
         let mut r = Random(1000 + seed);
         let mut t = Table::new();
@@ -125,6 +142,7 @@ fn changes(seeds: u64) {
 
 // ---- queries: answers, candidates, counts, and every word of both lists
 
+#[cfg(query)]
 fn queries(seeds: u64) {
     let mut calls = 0u64;
     for seed in 0..seeds {
@@ -203,6 +221,12 @@ fn bench() {
     });
     println!("check of a full table: {:.1} microseconds", 1e6 * s / turns as f64);
 
+    #[cfg(query)]
+    bench_queries(&mut r);
+}
+
+#[cfg(query)]
+fn bench_queries(r: &mut Random) {
     let mut t = Table::new();
     while t.points < 400 {
         let (x, y) = r.place(0);

@@ -4,7 +4,7 @@ extern "C" {
     fn ullagreth_check(table: *const i32, length: usize) -> u8;
     fn ullagreth_enrol(table: *mut i32, length: usize, number: i32, x: i32, y: i32) -> u8;
     fn ullagreth_withdraw(table: *mut i32, length: usize, number: i32) -> u8;
-    #[allow(clippy::too_many_arguments)]
+    #[cfg(query)]
     fn ullagreth_query(
         table: *const i32,
         length: usize,
@@ -38,6 +38,7 @@ pub fn withdraw(table: &mut [i32], number: i32) -> i32 {
     i32::from(unsafe { ullagreth_withdraw(table.as_mut_ptr(), table.len(), number) })
 }
 
+#[cfg(query)]
 /// The candidate list and the answer list that a query is lent, and its three counts.
 #[derive(Clone, PartialEq, Eq, Debug)]
 pub struct Lists {
@@ -49,6 +50,7 @@ pub struct Lists {
     pub counts: [u64; 3],
 }
 
+#[cfg(query)]
 impl Lists {
     /// So many candidates and answers, each word with a mark that no query writes.
     pub fn marked(candidates: usize, answers: usize) -> Lists {
@@ -63,6 +65,7 @@ impl Lists {
     }
 }
 
+#[cfg(query)]
 pub fn query(table: &[i32], x: i32, y: i32, k: i32, l: &mut Lists) -> i32 {
     let given = unsafe {
         ullagreth_query(

@@ -69,9 +69,9 @@ pub fn enrol(table: &mut [i32], number: i32, x: i32, y: i32) -> Given
     ensures given { λ r. ⌜ r ≡ enrolGives (now (table .entry)) number (site x y) ⌝ }
     ensures words { λ _. ⌜ now (table .exit) ≡ afterEnrol (now (table .entry)) number (site x y) ⌝ }
 {
-    let given = check(table);
-    let Given::Done = given else {
-        return given;
+    let checked = check(table);
+    let Given::Done = checked else {
+        return checked;
     };
     enrol_passing(table, number, x, y)
 }

@@ -47,9 +47,9 @@ pub fn withdraw(table: &mut [i32], number: i32) -> Given
     ensures given { λ r. ⌜ r ≡ withdrawGives (now (table .entry)) number ⌝ }
     ensures words { λ _. ⌜ now (table .exit) ≡ afterWithdraw (now (table .entry)) number ⌝ }
 {
-    let given = check(table);
-    let Given::Done = given else {
-        return given;
+    let checked = check(table);
+    let Given::Done = checked else {
+        return checked;
     };
     withdraw_passing(table, number)
 }
