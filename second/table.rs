@@ -1,5 +1,5 @@
-//! A second implementation of document 01, written from its text alone: the slots as Rust values, and their words.
-//! Nothing here is shared with the Rattle code; the tests compare the two word by word.
+//! A second implementation of document 01: the slots as Rust values, and their words.
+//! No code is shared with the Rattle sources; the author is, so a misreading of 01 that both share would pass. The tests compare the two word by word.
 
 pub const FAN: usize = 8;
 pub const LEAST: usize = 3;
