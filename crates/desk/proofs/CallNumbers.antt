@@ -1,11 +1,11 @@
 -- Whether a number is enrolled, slot by slot: the points of a slot have the numbers of its leaf entries. By the laws of tests of a list. Assumes nothing.
 use Prim.Native.Nat.{ℕ, zero, suc, _+_, _*_, _<_}
 use native.Mathlib.Omega.{arith}
-use mathlib.Core.Path.{_≡_, refl, sym, ap, _∙_}
+use mathlib.Core.Path.{_≡_, refl, ap, _∙_}
 use mathlib.Core.Bool.{Bool, true, false, cond}
 use mathlib.Core.List.{List, [], _∷_, map}
 use lib.Dec.{eqb}
-use lib.ListN.{length, getD}
+use lib.ListN.{getD}
 use Rattle.grid.specs.Word.{natOf}
 use Rattle.order.specs.Lists.{some, has, join}
 use Rattle.order.specs.Order.{upFrom}
@@ -13,14 +13,14 @@ use Rattle.order.proofs.Order.{up-length}
 use Rattle.table.specs.Figures.{SLOTS, ENTRY}
 use Rattle.table.specs.Words.{Words, word, partAt}
 use Rattle.table.specs.Page.{entryOf, filled, pageOf}
-use Rattle.table.specs.Slots.{slots, pageAt, entriesAt}
+use Rattle.table.specs.Slots.{slots, pageAt}
 use Rattle.table.specs.Stations.{isLeaf, stationOf, stationsAt, stations}
-use Rattle.table.specs.Rules.{leafEntries, numbersAt}
+use Rattle.table.specs.Rules.{numbersAt}
 use Rattle.audit.proofs.Joined.{map-join}
 use Rattle.desk.specs.Refusals.{numbersOf}
 use Rattle.desk.proofs.CallTests.{some-at, none-at, some-join}
 
-up-at : (a n i : ℕ) → i < n → getD (upFrom a n) i 0 ≡ a + i
+pub up-at : (a n i : ℕ) → i < n → getD (upFrom a n) i 0 ≡ a + i
 up-at a zero i h = absurd (omega arith)
 up-at a (suc n) zero h = omega arith
 up-at a (suc n) (suc i) h = up-at (suc a) n i (omega arith) ∙ (omega arith)

@@ -55,7 +55,7 @@ refusals = 1 ∷ 2 ∷ 3 ∷ 4 ∷ 5 ∷ 6 ∷ 7 ∷ 8 ∷ 9 ∷ 10 ∷ 11 ∷ 1
 pub not-done : (g : Given) → OneOf refusals (tagOf the-type g) → g ≡ Done → ⊥
 not-done g m e = miss refusals 0 tt (subst (λ (h : Given). OneOf refusals (tagOf the-type h)) e m)
 
-by-two : (a b : Bool) {g : Given} → g ≡ cond a WrongLength (cond b NotWellFormed Done) → (g ≡ Done → ⊥)
+pub by-two : (a b : Bool) {g : Given} → g ≡ cond a WrongLength (cond b NotWellFormed Done) → (g ≡ Done → ⊥)
     → (h : Given) → cond a WrongLength (cond b NotWellFormed h) ≡ g
 by-two true b e n h = sym e
 by-two false true e n h = sym e

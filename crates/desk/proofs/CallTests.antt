@@ -2,17 +2,17 @@
 use Prim.Native.Nat.{ℕ, zero, suc, _≤_, _<_}
 use native.Mathlib.Omega.{arith}
 use native.Mathlib.Decide.{decLe}
-use mathlib.Core.Path.{_≡_, refl, sym, ap, _∙_}
+use mathlib.Core.Path.{_≡_, refl, ap, subst, _∙_}
 use mathlib.Core.Bool.{Bool, true, false, not, _||_}
 use mathlib.Core.List.{List, [], _∷_, _++_, map}
-use lib.Dec.{eqb, leb, ltb}
+use lib.Dec.{leb, ltb}
 use lib.IntN.{ℤ}
 use lib.ListN.{length, getD}
 use mir.Syntax.{w32}
 use mir.Val.{SFits, toZ, ofZ}
 use mir.ValLaws.{toZ-ofZ}
 use borrow.Author.Tests.{lt-leb, le-leb, lt-ltb, le-ltb}
-use Rattle.order.specs.Lists.{some, has, join, Mem, All}
+use Rattle.order.specs.Lists.{some, join}
 use Rattle.table.specs.Rules.{between}
 use Rattle.audit.proofs.Tests.{or-second}
 
@@ -22,15 +22,25 @@ use Rattle.audit.proofs.Tests.{or-second}
 abbrev pub back : ℤ → ℤ
 back z = toZ w32 (ofZ w32 z)
 
+pub one-back : (P : ℤ → Type 0) (x : ℤ) → SFits w32 x → P (back x) → P x
+one-back P x a h = subst P (toZ-ofZ w32 x a) h
+
+pub two-back : (P : ℤ → ℤ → Type 0) (x y : ℤ) → SFits w32 x → SFits w32 y → P (back x) (back y) → P x y
+two-back P x y a b h = one-back (P x) y b (one-back (λ v. P v (back y)) x a h)
+
+pub three-back : (P : ℤ → ℤ → ℤ → Type 0) (x y z : ℤ) → SFits w32 x → SFits w32 y → SFits w32 z → P (back x) (back y) (back z) → P x y z
+three-back P x y z a b d h = two-back (P x) y z b d (one-back (λ v. P v (back y) (back z)) x a h)
+
+-- so a result that is said by them
 module _ {A : Type 0} where
   pub one-passed : (f : ℤ → A) (x : ℤ) {r : A} → SFits w32 x → r ≡ f (back x) → r ≡ f x
-  one-passed f x a e = e ∙ ap f (toZ-ofZ w32 x a)
+  one-passed f x {r} a e = one-back (λ u. r ≡ f u) x a e
 
   pub two-passed : (f : ℤ → ℤ → A) (x y : ℤ) {r : A} → SFits w32 x → SFits w32 y → r ≡ f (back x) (back y) → r ≡ f x y
-  two-passed f x y a b e = one-passed (f x) y b (one-passed (λ v. f v (back y)) x a e)
+  two-passed f x y {r} a b e = two-back (λ u v. r ≡ f u v) x y a b e
 
   pub three-passed : (f : ℤ → ℤ → ℤ → A) (x y z : ℤ) {r : A} → SFits w32 x → SFits w32 y → SFits w32 z → r ≡ f (back x) (back y) (back z) → r ≡ f x y z
-  three-passed f x y z a b d e = two-passed (f x) y z b d (one-passed (λ v. f v (back y) (back z)) x a e)
+  three-passed f x y z {r} a b d e = three-back (λ u v w. r ≡ f u v w) x y z a b d e
 
 -- ---- a number outside a range
 

@@ -2,6 +2,7 @@
 use Prim.Native.Nat.{ℕ, _≤_}
 use native.Mathlib.Omega.{arith}
 use mathlib.Core.Path.{_≡_, sym, ap, subst, _∙_}
+use mathlib.Core.Bool.{true}
 use mathlib.Core.List.{List, [], map}
 use lib.IntN.{ℤ}
 use lib.ListN.{length, drop, length-map, length-append, length-drop}
@@ -15,12 +16,12 @@ use Rattle.table.specs.declared.given.Given.the-variants.{Done}
 use Rattle.table.specs.Figures.{MOST, HIGHEST}
 use Rattle.table.specs.Words.{Words, pointsOf}
 use Rattle.table.specs.Stations.{Station, stations}
+use Rattle.table.specs.Rules.{isPoint}
 use Rattle.table.specs.Given.{firstOf}
 use Rattle.table.specs.Empty.{emptyTable}
-use Rattle.audit.proofs.Joined.{all-map}
+use Rattle.audit.proofs.Joined.{all-map, all-then}
 use Rattle.audit.proofs.Size.{sound-bounds}
-use Rattle.audit.proofs.Reading.{Point, held-points}
-use Rattle.audit.proofs.Held.{held-stations}
+use Rattle.audit.proofs.Reading.{Point, point, held-points}
 use Rattle.audit.proofs.WellFormed.{empty-is-empty}
 use Rattle.filter.specs.Meaning.{answersTo, rising, answer}
 use Rattle.filter.specs.Walk.{Found}
@@ -50,7 +51,7 @@ module _ (q : Site) (g : SiteOnGrid q) (k : ℕ) where
       (subst (Finds emptyTable) (sym (found-empty emptyTable empty-is-empty q k)) (record { few = omega arith; points = tt; opened = omega arith }))
       (λ us h. record {
         few = omega (arith, candidates-few us (h .level) (h .tree) (h .holds) (h .sound) q g k, held-points (h .holds));
-        points = candidates-points us (h .level) (h .tree) (h .holds) (h .sound) q g k;
+        points = all-then (λ e. isPoint e ≡ true) Point point (found us q k .candidates) (candidates-points us (h .level) (h .tree) (h .holds) (h .sound) q g k);
         opened = omega (arith, opened-few us (h .level) (h .tree) (h .holds) (h .sound) q g k, sound-bounds (h .level) (h .tree) (h .sound) .1);
       })
       ws
@@ -60,7 +61,7 @@ module _ (q : Site) (g : SiteOnGrid q) (k : ℕ) where
   passing-answers {ws} =
       by-table (λ us. answersFound us q k ≡ answer (stations us) q k)
       (answers-empty emptyTable empty-is-empty q k ∙ sym (answer-empty emptyTable empty-is-empty q k))
-      (λ us h. answers-right us (h .level) (h .tree) (h .holds) (h .sound) q g k (held-stations (h .holds) (h .sound)))
+      (λ us h. answers-right us (h .level) (h .tree) (h .holds) (h .sound) q g k)
       ws
 
   -- no more answers than points

@@ -5,5 +5,7 @@ pub mod Kept
 pub mod Finds
 pub mod Demands
 pub mod CallTests
-pub mod CallOrder
 pub mod CallNumbers
+pub mod CallOrder
+pub mod CallRows
+pub mod CallQuery

@@ -14,7 +14,7 @@ use table::node::Node;
 use table::slot;
 
 // 3: point number outside 1 to 9,999.
-pub fn no_such_number(number: i32) -> bool
+pub(crate) fn no_such_number(number: i32) -> bool
     ensures { λ r. ⌜ r ≡ noSuchNumber number ⌝ }
 {
     let n = border::natural(number);
@@ -25,7 +25,7 @@ pub fn no_such_number(number: i32) -> bool
 }
 
 // 4: a coordinate off the grid.
-pub fn off_grid(x: i32, y: i32) -> bool
+pub(crate) fn off_grid(x: i32, y: i32) -> bool
     ensures { λ r. ⌜ r ≡ offGrid (site x y) ⌝ }
 {
     if !border::on_grid(x) {
@@ -35,14 +35,14 @@ pub fn off_grid(x: i32, y: i32) -> bool
 }
 
 // 5: k outside 1 to 16.
-pub fn no_such_k(k: i32) -> bool
+pub(crate) fn no_such_k(k: i32) -> bool
     ensures { λ r. ⌜ r ≡ noSuchK k ⌝ }
 {
-    let n = border::natural(k);
-    if n < 1 {
+    let least = border::natural(k);
+    if least < 1 {
         return true;
     }
-    16 < n
+    16 < least
 }
 
 // Whether an entry of a leaf is the point of a number.
@@ -74,7 +74,7 @@ fn stands_in(table: &[i32], slot: usize, number: usize) -> bool
 }
 
 // 6 and 8: whether the number is enrolled.
-pub fn is_enrolled(table: &[i32], number: i32) -> bool
+pub(crate) fn is_enrolled(table: &[i32], number: i32) -> bool
     requires { ⌜ length (now table) ≡ LENGTH ⌝ }
     ensures { λ r. ⌜ r ≡ isEnrolled (now (table .entry)) number ⌝ }
 {
@@ -90,7 +90,7 @@ pub fn is_enrolled(table: &[i32], number: i32) -> bool
 }
 
 // 7: 500 points enrolled.
-pub fn is_full(table: &[i32]) -> bool
+pub(crate) fn is_full(table: &[i32]) -> bool
     requires { ⌜ length (now table) ≡ LENGTH ⌝ }
     ensures { λ r. ⌜ r ≡ isFull (now (table .entry)) ⌝ }
 {

@@ -1,18 +1,14 @@
 -- The answers of the walk are the stations that answer: a point that is no candidate has k candidates nearer, and these are others. Assumes nothing.
-use Prim.Native.Nat.{ℕ, zero, suc, _+_, _-_, _≤_, _<_, _^_}
+use Prim.Native.Nat.{ℕ, _-_, _≤_, _<_, _^_}
 use native.Mathlib.Omega.{arith}
 use mathlib.Core.Path.{_≡_, refl, sym, ap, subst, _∙_}
-use mathlib.Core.Bool.{Bool, true, false, cond, not, _&&_}
-use mathlib.Core.List.{List, [], _∷_, _++_, map, map-append, List·Memᴰ·head, List·Memᴰ·tail, List·Memᴰ·not-nil, Memᴰ·map, Memᴰ·of-map, append-nil, Memᴰ·cast, Memᴰ·append-left, Memᴰ·append-right}
+use mathlib.Core.Bool.{Bool, true, false}
+use mathlib.Core.List.{List, [], _∷_, _++_, map, map-append, Memᴰ·map, Memᴰ·of-map, append-nil, Memᴰ·cast, Memᴰ·append-left, Memᴰ·append-right}
 use lib.Dec.{eqb}
 use lib.IntN.{ℤ, pos, negsuc}
-use lib.ListN.{length, length-append, length-map}
-use borrow.Author.Tests.{leb-true, eqb-true, ne-eqb, le-ltb}
-use Rattle.grid.specs.Word.{natOf}
-use Rattle.grid.specs.declared.place.Place.{Place}
-use Rattle.grid.specs.declared.span.Span.{Span}
-use Rattle.grid.specs.Axis.{OnGrid}
-use Rattle.grid.specs.Place.{PlaceOnGrid, Inside, dist²}
+use lib.ListN.{length}
+use borrow.Author.Tests.{eqb-true, ne-eqb, le-ltb}
+use Rattle.grid.specs.Word.{IsWord, natOf}
 use Rattle.grid.specs.Site.{Site, placeOf, distance²}
 use Rattle.grid.specs.Nearer.{nearer, nearerTo}
 use Rattle.grid.proofs.Words.{word-is, steps-word}
@@ -20,23 +16,26 @@ use Rattle.grid.proofs.Rects.{place-ext}
 use Rattle.grid.proofs.Site.{SiteWords, SiteOnGrid, site-words, dist-sites}
 use Rattle.order.specs.Lists.{count, one, filter, every, join, Mem, All, NoDup}
 use Rattle.order.specs.Order.{Perm, ptrans}
-use Rattle.order.proofs.Perm.{psym, prefl, perm-map, perm-length, perm-mem}
+use Rattle.order.proofs.Perm.{psym, perm-map}
 use Rattle.order.proofs.Lists.{count-append, perm-count, all-mem, mem-all, all-perm, perm-nodup}
 use Rattle.table.specs.declared.node.Entry.{Entry}
 use Rattle.table.specs.Words.{Words, word, isMinusOne, pointsOf, partAt}
 use Rattle.table.specs.Page.{pageOf}
 use Rattle.table.specs.Slots.{slots, isFree, pageAt}
 use Rattle.table.specs.Stations.{Station, stationsAt, stations}
-use Rattle.table.specs.Rules.{isPoint, isEmpty}
+use Rattle.table.specs.Figures.{LENGTH}
+use Rattle.table.specs.Rules.{isPoint, isEmpty, wellFormed}
 use Rattle.table.specs.Tree.{Tree, topOf, slotsOf, leavesOf, Sound, Holds}
-use Rattle.filter.specs.Meaning.{isOther, nearerOther, answersTo, rising, answer}
+use Rattle.filter.specs.Meaning.{nearerOther, answersTo, rising, answer}
 use Rattle.filter.specs.Walk.{Found, spotIn, walk}
 use Rattle.filter.specs.Query.{nothing, found, stationIn, answersFound}
 use Rattle.filter.proofs.Rising.{filter-append, filter-none, perm-filter, rising-same}
 use Rattle.filter.proofs.Steps.{Hidden, Step, step-few, step-all, step-walk}
-use Rattle.audit.proofs.Tests.{and-left, and-right}
+use Rattle.audit.proofs.Tests.{and-left, and-right, by-test}
 use Rattle.audit.proofs.Joined.{all-then, nodup-left, nodup-apart}
 use Rattle.audit.proofs.Reading.{Point, point, good-root, stored-level}
+use Rattle.audit.proofs.Held.{held-stations, not-empty}
+use Rattle.audit.proofs.WellFormed.{well-formed-tree}
 
 -- ---- a leaf's entry as a station
 
@@ -48,7 +47,7 @@ point-site e p =
     (record { x = word-is _ bx; y = word-is _ by }, place-ext (steps-word _ bx) (steps-word _ by))
 
 -- nearer in steps is nearer on the ground
-nearer-site : (q : Site) → SiteOnGrid q → (c e : Entry) → Point c → Point e
+pub nearer-site : (q : Site) → SiteOnGrid q → (c e : Entry) → Point c → Point e
     → nearerTo (spotIn e) (spotIn c) (placeOf q) ≡ nearer (distance² (stationIn c .site) (stationIn e .site)) (distance² q (stationIn e .site))
 unfolding nearerTo
 nearer-site q g c e pc pe =
@@ -132,15 +131,11 @@ module _ (q : Site) (g : SiteOnGrid q) (k : ℕ) (all : List Station) (S : List 
 
 -- ---- a table that holds a tree
 
-not-empty : (ws : Words) (n : ℕ) → word ws 0 ≡ pos n → isEmpty ws ≡ false
-unfolding isEmpty
-not-empty ws n e = rw e
-
 module _ (ws : Words) (l : ℕ) (t : Tree l) (h : Holds ws l t) (s : Sound l t) (q : Site) (g : SiteOnGrid q) (k : ℕ) where
   pub found-walk : found ws q k ≡ walk (placeOf q) k l ws (topOf l t) nothing
   unfolding found
   found-walk =
-      rw (not-empty ws (topOf l t) (h .root)) (rw (h .root) (rw (stored-level ws {t = t} (good-root s) (h .stored))))
+      rw (not-empty h s) (rw (h .root) (rw (stored-level ws {t = t} (good-root s) (h .stored))))
 
   pub found-step : Step (placeOf q) k (leavesOf l t) (slotsOf l t) nothing (found ws q k)
   found-step = rw found-walk (step-walk (placeOf q) k ws l t (good-root s) (h .stored) nothing)
@@ -148,19 +143,25 @@ module _ (ws : Words) (l : ℕ) (t : Tree l) (h : Holds ws l t) (s : Sound l t) 
   points : All Point (leavesOf l t)
   points = all-then (λ e. isPoint e ≡ true) Point point (leavesOf l t) (s .points)
 
-  module _ (flat : Perm (stations ws) (map stationIn (leavesOf l t))) where
-    -- demand 2: the answers of the walk are the answer
-    pub answers-right : answersFound ws q k ≡ answer (stations ws) q k
-    unfolding answersFound
-    answers-right = answers-all q g k (stations ws) (leavesOf l t) (slotsOf l t) (found ws q k) found-step flat points (s .once)
+  -- demand 2: the answers of the walk are the answer
+  pub answers-right : answersFound ws q k ≡ answer (stations ws) q k
+  unfolding answersFound
+  answers-right =
+      answers-all q g k (stations ws) (leavesOf l t) (slotsOf l t) (found ws q k) found-step (held-stations h s) points (s .once)
 
   -- no more candidates than points
   pub candidates-few : length (found ws q k .candidates) ≤ length (leavesOf l t)
   candidates-few = omega (arith, step-few found-step)
 
-  -- each is a point
-  pub candidates-points : All Point (found ws q k .candidates)
-  candidates-points = step-all found-step Point tt points
+  -- each is a leaf's entry
+  pub candidates-leaves : (e : Entry) → Mem e (found ws q k .candidates) → Mem e (leavesOf l t)
+  candidates-leaves e m =
+      let Q : Entry → Type 0 = λ c. Mem c (leavesOf l t) in
+      mem-all Q (found ws q k .candidates) (step-all found-step Q tt (all-mem Q (leavesOf l t) (λ c n. n))) m
+
+  -- so a point
+  pub candidates-points : All (λ e. isPoint e ≡ true) (found ws q k .candidates)
+  candidates-points = step-all found-step (λ e. isPoint e ≡ true) tt (s .points)
 
   -- no number stands twice
   pub candidates-once : NoDup (map numberOf (found ws q k .candidates))
@@ -205,3 +206,11 @@ module _ (ws : Words) (e : isEmpty ws ≡ true) (q : Site) (k : ℕ) where
   pub answer-empty : answer (stations ws) q k ≡ []
   unfolding answer rising
   answer-empty = rw (stations-empty ws e)
+
+-- ---- every well-formed table
+
+pub query-right : (ws : Words) → length ws ≡ LENGTH → All IsWord ws → wellFormed ws ≡ true → (q : Site) → SiteOnGrid q → (k : ℕ)
+    → answersFound ws q k ≡ answer (stations ws) q k
+query-right ws long fits w q g k =
+    by-test (isEmpty ws) (λ e. answers-empty ws e q k ∙ sym (answer-empty ws e q k))
+    (λ e. let t = well-formed-tree ws long fits w e in answers-right ws (t .level) (t .tree) (t .holds) (t .sound) q g k)

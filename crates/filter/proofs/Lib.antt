@@ -1,4 +1,15 @@
 pub mod Rising
 pub mod Steps
 pub mod Answers
+pub mod Rows
+pub mod Visits
+pub mod Taken
+pub mod Turns
+pub mod NodeTurns
+pub mod Opening
 pub mod Meaning
+pub mod Testing
+pub mod Inserting
+pub mod Listing
+pub mod Replies
+pub mod Records

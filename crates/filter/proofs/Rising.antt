@@ -1,16 +1,15 @@
 -- Lists that hold the same numbers rise the same way: two insertions may change places. And what a filter keeps of a permuted list. Assumes nothing.
-use Prim.Native.Nat.{ℕ, _≤_, _<_}
+use Prim.Native.Nat.{ℕ, _<_}
 use native.Mathlib.Omega.{arith}
 use mathlib.Core.Path.{_≡_, refl, sym, ap, _∙_}
-use mathlib.Core.Bool.{Bool, true, false, cond}
+use mathlib.Core.Bool.{Bool, false, cond}
 use mathlib.Core.List.{List, [], _∷_, _++_}
 use native.Mathlib.Decide.{decLe, decLt}
-use lib.Dec.{leb}
 use borrow.Author.Tests.{le-leb, lt-leb}
 use Rattle.order.specs.Lists.{filter, All}
 use Rattle.order.specs.Order.{insert, sortBy, Perm, pnil, pskip, pswap, ptrans}
 use Rattle.order.proofs.Perm.{prefl}
-use Rattle.order.proofs.Lists.{by-bool, by-leb}
+use Rattle.order.proofs.Lists.{by-bool}
 use Rattle.filter.specs.Meaning.{rising}
 
 -- ---- filters

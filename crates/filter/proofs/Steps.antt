@@ -2,7 +2,7 @@
 use Prim.Native.Nat.{ℕ, zero, suc, _+_, _≤_}
 use native.Mathlib.Omega.{arith}
 use mathlib.Core.Path.{_≡_, refl, sym, ap, subst, _∙_}
-use mathlib.Core.Bool.{Bool, true, false, cond}
+use mathlib.Core.Bool.{true, cond}
 use mathlib.Core.List.{List, [], _∷_, _++_, map, append-nil, append-assoc, Memᴰ·map}
 use lib.ListN.{length, length-append}
 use borrow.Author.Tests.{leb-true}
@@ -13,18 +13,18 @@ use Rattle.grid.proofs.Rects.{within-trans, inside-within}
 use Rattle.grid.proofs.Nearer.{half-plane}
 use Rattle.order.specs.Lists.{count, join, Mem, All}
 use Rattle.order.specs.Order.{sortBy, Perm, ptrans}
-use Rattle.order.proofs.Perm.{prefl, psym, perm-length, perm-before, perm-behind, perm-turn, perm-append, perm-mem}
+use Rattle.order.proofs.Perm.{prefl, perm-length, perm-before, perm-behind, perm-turn, perm-append, perm-mem}
 use Rattle.order.proofs.Lists.{by-bool, count-append, count-mono, all-mem, mem-all, all-perm, all-append, join-in, join-one, perm-join}
 use Rattle.order.proofs.Order.{sort-perm, sort-map}
 use Rattle.table.specs.declared.node.Entry.{Entry}
 use Rattle.table.specs.Words.{Words}
-use Rattle.table.specs.Slots.{entriesAt}
 use Rattle.table.specs.Figures.{LEAST}
 use Rattle.table.specs.Rules.{isPoint}
 use Rattle.table.specs.Tree.{Tree, topOf, entryOfTree, slotsOf, leavesOf, Stored}
 use Rattle.table.proofs.Cover.{cover-mem}
 use Rattle.audit.proofs.Joined.{all-left}
 use Rattle.audit.proofs.Reading.{Point, point, Good, good-child, good-children, entry-reference, stored-child, stored-entries}
+use Rattle.filter.proofs.Rows.{map-same}
 use Rattle.filter.specs.Walk.{Found, spotIn, each, nearestFirst, pointHidden, boxHidden, withCandidate, withOpened, visited, entered, walk}
 
 -- ---- lists
@@ -33,10 +33,6 @@ use Rattle.filter.specs.Walk.{Found, spotIn, each, nearestFirst, pointHi
 perm-inner : {A : Type 0} (a b c d : List A) → Perm ((a ++ b) ++ (c ++ d)) ((a ++ c) ++ (b ++ d))
 perm-inner a b c d =
     simp append-assoc (perm-before a (simp (← append-assoc) (perm-behind (perm-turn b c) d)))
-
-map-same : {A : Type 0} (xs : List A) → map (λ x. x) xs ≡ xs
-map-same [] = refl
-map-same (x ∷ xs) = ap (λ l. x ∷ l) (map-same xs)
 
 -- ---- a point lies in the boxes above it
 

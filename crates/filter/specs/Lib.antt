@@ -1,3 +1,7 @@
 pub mod Meaning
 pub mod Walk
 pub mod Query
+pub mod Rows
+pub mod Passable
+pub mod Test
+pub mod Reply

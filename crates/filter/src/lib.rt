@@ -1,4 +1,12 @@
 // The reverse k-nearest query on a well-formed table: the filter walk, the final test, the answer list.
 // It promises the candidates, the opened nodes and the answers of the definitions in specs/.
-// It stands on table (nodes and slots), grid (distances) and order (the stable order).
+// It stands on table (nodes and slots), grid (distances) and order (the stable order); its proofs stand on audit (what a well-formed table stores).
+pub mod answering;
+pub mod candidate;
 pub mod discard;
+pub mod find;
+pub mod nearest;
+pub mod query;
+pub mod seen;
+pub mod test;
+pub mod walk;

@@ -1,5 +1,5 @@
 -- `enrol::enrol_passing` meets its contract: a refusal leaves the table, and a granted enrolment puts the point's entry in. Assumes nothing.
-use mathlib.Core.Path.{_≡_, sym, ap, _∙_}
+use mathlib.Core.Path.{sym, ap, _∙_}
 use Rattle.table.specs.Rules.{isPoint}
 use Rattle.change.specs.Enrol.{enrolled}
 use Rattle.desk.specs.Refusals.{site, enrolGives}

@@ -5,7 +5,6 @@ use Rattle.grid.specs.Place.{spotOf}
 use Rattle.grid.proofs.Machine.{steps-passed, natural-passed}
 use Rattle.table.proofs.Nodes.{entry-ext}
 use borrow.Author.Needs.{needs}
-use Rattle.grid.specs.declared.place.Place.{Place}
 use Rattle.desk.proofs.enrol.point_entry.Statement.{statement}
 use Rattle.desk.proofs.enrol.point_entry.Tie as tie
 

@@ -1,5 +1,5 @@
 -- `withdraw::withdraw_passing` meets its contract: a refusal leaves the table, and a granted withdrawal takes the number out. Assumes nothing.
-use mathlib.Core.Path.{_≡_, sym, ap, _∙_}
+use mathlib.Core.Path.{sym, ap, _∙_}
 use Rattle.grid.proofs.Machine.{natural-passed}
 use Rattle.order.specs.Lists.{has}
 use Rattle.change.specs.Withdraw.{withdrawn}

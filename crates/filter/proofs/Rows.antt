@@ -1,0 +1,156 @@
+-- Laws of the four rows of the candidate list, and of counts over places. Assumes nothing.
+use Prim.Native.Nat.{ℕ, zero, suc, _+_, _-_, _≤_, _<_, _^_}
+use native.Mathlib.Omega.{arith}
+use native.Mathlib.Numerals.{add-one}
+use mathlib.Core.Path.{_≡_, refl, sym, ap, _∙_}
+use mathlib.Core.Bool.{Bool, true}
+use mathlib.Core.List.{List, [], _∷_, _++_, map, map-append, append-assoc}
+use lib.IntN.{pos}
+use lib.ListN.{length, getD, drop, set, length-append, length-drop, length-map, List·getD-append}
+use lib.Seq.{drop-append-add, drop-drop, drop-cons, set-at}
+use Rattle.grid.specs.Word.{stepsOf, wordOf, natOf}
+use Rattle.grid.specs.declared.place.Place.{Place}
+use Rattle.grid.specs.Place.{dist², spotOf}
+use Rattle.grid.proofs.Words.{steps-word}
+use Rattle.grid.proofs.Rects.{place-ext}
+use Rattle.order.specs.Lists.{one, count, All}
+use Rattle.filter.specs.Query.{laidOver}
+use Rattle.filter.specs.Walk.{spotIn}
+use Rattle.filter.specs.Rows.{Rows, entryIn, listed, laidIn, Room, Kept}
+use Rattle.order.proofs.Lists.{map-at, all-at}
+use Rattle.order.proofs.Order.{pick-all, up-all}
+use Rattle.table.specs.declared.node.Entry.{Entry}
+use Rattle.table.specs.Page.{blankEntry}
+use Rattle.table.specs.Rules.{isPoint}
+use Rattle.table.proofs.Nodes.{entry-ext}
+use Rattle.audit.proofs.Joined.{all-then}
+use Rattle.audit.proofs.Reading.{Point, point, point-spot}
+use Rattle.order.specs.Order.{upFrom}
+
+pub count-map : {A B : Type 0} (P : B → Bool) (f : A → B) (xs : List A) → count P (map f xs) ≡ count (λ x. P (f x)) xs
+count-map P f [] = refl
+count-map P f (x ∷ xs) = omega (arith, count-map P f xs)
+
+pub map-same : {A : Type 0} (xs : List A) → map (λ x. x) xs ≡ xs
+map-same [] = refl
+map-same (x ∷ xs) = ap (λ l. x ∷ l) (map-same xs)
+
+count-up : (P : ℕ → Bool) (a n : ℕ) → count P (upFrom a (suc n)) ≡ count P (upFrom a n) + one (P (a + n))
+count-up P a zero =
+    let e : a + 0 ≡ a = omega arith in
+    rw e (omega arith)
+count-up P a (suc n) =
+    let e : suc a + n ≡ a + suc n = omega arith in
+    omega (arith, count-up P (suc a) n, ap (λ (i : ℕ). one (P i)) e)
+
+-- a count over the first places, one place on
+pub tally : (P : ℕ → Bool) (i n : ℕ) (t : Bool) → t ≡ P i → n ≡ count P (upFrom 0 i) → n + one t ≡ count P (upFrom 0 (i + 1))
+tally P i n t e h =
+    let z : 0 + i ≡ i = omega arith in
+    rw add-one (omega (arith, count-up P 0 i, ap (λ (j : ℕ). one (P j)) z, ap one e))
+
+-- ---- one row
+
+module _ {A : Type 0} where
+  pub laid-length : (new old : List A) → length new ≤ length old → length (laidOver new old) ≡ length old
+  laid-length new old h = omega (arith, length-append new (drop (length new) old), length-drop (length new) old)
+
+  -- what is laid over again covers what was laid before
+  pub laid-again : (a b old : List A) → length a ≤ length b → laidOver b (laidOver a old) ≡ laidOver b old
+  laid-again a b old h =
+      let e : length b ≡ length a + (length b - length a) = omega arith in
+      ap (λ l. b ++ l)
+      (ap (λ (n : ℕ). drop n (a ++ drop (length a) old)) e
+      ∙ drop-append-add a (drop (length a) old) (length b - length a)
+      ∙ drop-drop (length b - length a) (length a) old
+      ∙ ap (λ (n : ℕ). drop n old) (sym e))
+
+  -- one more behind what is laid
+  pub laid-set : (new old : List A) (v : A) → length new < length old → set (laidOver new old) (length new) v ≡ laidOver (new ++ v ∷ []) old
+  laid-set new old v h =
+      let n = length new in
+      let e : length (new ++ v ∷ []) ≡ suc n = omega (arith, length-append new (v ∷ [])) in
+      ap (λ l. set (new ++ l) n v) (drop-cons old n v h)
+      ∙ set-at new (getD old n v) (drop (suc n) old) v n refl
+      ∙ sym (append-assoc new (v ∷ []) (drop (length (new ++ v ∷ [])) old) ∙ ap (λ (i : ℕ). new ++ v ∷ drop i old) e)
+
+  -- the row of some candidates, with the word of one more
+  pub row-add : {E : Type 0} (w : E → A) (cs : List E) (m : ℕ) (e : E) (old : List A) → length cs ≡ m → laidOver (map w cs) old ≡ old → m < length old
+      → set old m (w e) ≡ laidOver (map w (cs ++ e ∷ [])) old
+  row-add w cs m e old n same h =
+      let k : length (map w cs) ≡ m = length-map cs w ∙ n in
+      ap (λ l. set l m (w e)) (sym same)
+      ∙ ap (λ (i : ℕ). set (laidOver (map w cs) old) i (w e)) (sym k)
+      ∙ laid-set (map w cs) old (w e) (omega arith)
+      ∙ ap (λ l. laidOver l old) (sym (map-append w cs (e ∷ [])))
+
+  pub row-again : {E : Type 0} (w : E → A) (cs ds : List E) (old : List A) → length cs ≤ length ds
+      → laidOver (map w ds) (laidOver (map w cs) old) ≡ laidOver (map w ds) old
+  row-again w cs ds old h = laid-again (map w cs) (map w ds) old (omega (arith, length-map cs w, length-map ds w))
+
+  pub row-length : {E : Type 0} (w : E → A) (cs : List E) (old : List A) → length cs ≤ length old → length (laidOver (map w cs) old) ≡ length old
+  row-length w cs old h = laid-length (map w cs) old (omega (arith, length-map cs w))
+
+  -- what stands at a place of them
+  pub row-at : {E : Type 0} (w : E → A) (cs : List E) (old : List A) (d : E) (z : A) (i : ℕ) → i < length cs
+      → getD (laidOver (map w cs) old) i z ≡ w (getD cs i d)
+  row-at w cs old d z i h =
+      List·getD-append (map w cs) (drop (length (map w cs)) old) z i (omega (arith, length-map cs w)) ∙ map-at w cs d z i h
+
+-- ---- the four rows
+
+pub rows-ext : {r s : Rows} → r .numbers ≡ s .numbers → r .xs ≡ s .xs → r .ys ≡ s .ys → r .squares ≡ s .squares → r ≡ s
+rows-ext n x y z = λ i. record { numbers = n i; xs = x i; ys = y i; squares = z i }
+
+pub rows-again : (q : Place) (cs ds : List Entry) (r : Rows) → length cs ≤ length ds → laidIn q ds (laidIn q cs r) ≡ laidIn q ds r
+unfolding laidIn
+rows-again q cs ds r h =
+    rows-ext (row-again _ cs ds (r .numbers) h) (row-again _ cs ds (r .xs) h) (row-again _ cs ds (r .ys) h) (row-again _ cs ds (r .squares) h)
+
+pub rows-room : (q : Place) (cs : List Entry) (r : Rows) (n : ℕ) → length cs ≤ n → Room n r → Room n (laidIn q cs r)
+unfolding laidIn
+rows-room q cs r n h room = record {
+  numbers = omega (arith, room .numbers, row-length (λ (e : Entry). pos (e .reference)) cs (r .numbers) (omega (arith, room .numbers)));
+  xs = omega (arith, room .xs, row-length (λ (e : Entry). wordOf (e .rect .x .low)) cs (r .xs) (omega (arith, room .xs)));
+  ys = omega (arith, room .ys, row-length (λ (e : Entry). wordOf (e .rect .y .low)) cs (r .ys) (omega (arith, room .ys)));
+  squares = omega (arith, room .squares, row-length (λ (e : Entry). dist² q (spotIn e)) cs (r .squares) (omega (arith, room .squares)));
+}
+
+-- what is read where candidates were laid are the candidates
+pub map-both : {A B : Type 0} (f g : A → B) (xs : List A) → All (λ x. f x ≡ g x) xs → map f xs ≡ map g xs
+map-both f g [] h = refl
+map-both f g (x ∷ xs) h =
+    let e = h .0 in
+    let d = map-both f g xs (h .1) in
+    cc
+
+pub entry-back : (q : Place) (cs : List Entry) (r : Rows) → All Point cs → (i : ℕ) → i < length cs → entryIn (laidIn q cs r) i ≡ getD cs i blankEntry
+unfolding laidIn
+entry-back q cs r ps i h =
+    let e = getD cs i blankEntry in
+    let p : Point e = all-at Point cs i blankEntry h ps in
+    let sx : e .rect .x .low < 2 ^ 32 = omega (arith, p .x .grid) in
+    let sy : e .rect .y .low < 2 ^ 32 = omega (arith, p .y .grid) in
+    entry-ext (ap natOf (row-at (λ (e : Entry). pos (e .reference)) cs (r .numbers) blankEntry (pos 0) i h))
+    (ap spotOf
+    (place-ext
+    (ap stepsOf (row-at (λ (e : Entry). wordOf (e .rect .x .low)) cs (r .xs) blankEntry (pos 0) i h) ∙ steps-word _ sx)
+    (ap stepsOf (row-at (λ (e : Entry). wordOf (e .rect .y .low)) cs (r .ys) blankEntry (pos 0) i h) ∙ steps-word _ sy))
+    ∙ sym (point-spot p))
+
+pub listed-back : (q : Place) (cs : List Entry) (r : Rows) → All Point cs → listed (laidIn q cs r) (length cs) ≡ cs
+unfolding listed
+listed-back q cs r ps =
+    map-both (entryIn (laidIn q cs r)) (λ i. getD cs i blankEntry) (upFrom 0 (length cs))
+    (up-all (λ i. entryIn (laidIn q cs r) i ≡ getD cs i blankEntry) 0 (length cs) (λ i l u. entry-back q cs r ps i (omega arith)))
+    ∙ pick-all cs blankEntry
+
+-- so they are kept
+pub rows-kept : (q : Place) (cs : List Entry) (r : Rows) → All (λ e. isPoint e ≡ true) cs → Room (length cs) r → Kept q (laidIn q cs r) (length cs)
+rows-kept q cs r ps room =
+    let b : listed (laidIn q cs r) (length cs) ≡ cs = listed-back q cs r (all-then (λ e. isPoint e ≡ true) Point point cs ps) in
+    record {
+      room = rows-room q cs r (length cs) (omega arith) room;
+      points = rw b ps;
+      same = rw b (rows-again q cs cs r (omega arith));
+    }

@@ -1,0 +1,331 @@
+-- `filter::walk::walk` meets its contract, by recursion on the level. The loop's invariant: the rows hold what the turns of the first `i` children have found. Assumes nothing.
+use Prim.Native.Nat.{ℕ, _-_, _≤_, _<_}
+use native.Mathlib.Omega.{arith}
+use mathlib.Core.Path.{_≡_, refl, _∙_}
+use lib.ListN.{length, take, getD}
+use borrow.Author.Needs.{needs}
+use Rattle.grid.specs.Place.{RectOnGrid}
+use Rattle.table.specs.declared.node.Entry.{Entry}
+use Rattle.table.specs.Page.{held, blankEntry}
+use Rattle.table.proofs.Nodes.{full}
+use Rattle.audit.proofs.Joined.{all-then}
+use Rattle.filter.specs.Walk.{each, nearestFirst, entered, walk as walkOf}
+use Rattle.filter.specs.Rows.{rows, foundIn, Noted}
+use Rattle.filter.proofs.Visits.{kept-grid, noted-same, enter-hidden, enter-open, enter-ready}
+use Rattle.filter.proofs.Turns.{walk-opens}
+use Rattle.filter.proofs.NodeTurns.{
+  Turns,
+  Turn,
+  turn,
+  turns-end,
+  passable-slot,
+  IsChild,
+  node-few,
+  leaf-points,
+  leaf-whole,
+  leaf-ready,
+  above-all,
+  above-whole,
+  above-turns,
+}
+use borrow.Fn.Kinds.{In}
+use borrow.Fn.PlainCycle.{Measures, is, falls, and}
+use Rattle.filter.proofs.walk.walk.Reads as walk
+use Rattle.filter.proofs.walk.walk.Kinds as walk-kinds
+use Rattle.filter.proofs.walk.+walk.Lts-walk as walk-lts
+use Rattle.filter.proofs.discard.enough.Reads as enough-reads
+use Rattle.filter.proofs.discard.nearer_around.Reads as nearer-around-reads
+use Rattle.filter.proofs.nearest.nearest.Reads as nearest-reads
+use Rattle.filter.proofs.seen.Seen.opening.Reads as opening-reads
+use Rattle.filter.proofs.walk.visit_leaf.Reads as visit-leaf-reads
+use Rattle.table.proofs.slot.node_at.Reads as node-at-reads
+use Rattle.filter.proofs.walk.+walk.{statement}
+use Rattle.filter.proofs.walk.+walk.Tie.{close}
+
+abbrev μ-walk : Measures 5 walk-kinds.ps ℕ
+μ-walk κs a = a .1 .1 .0
+
+abbrev walk-at : ℕ → In 5 walk-kinds.ps
+walk-at t = and 5 walk-kinds.ps (is 5 walk-kinds.ps μ-walk t) walk.Pre
+
+abbrev walk-below : ℕ → In 5 walk-kinds.ps
+walk-below t = and 5 walk-kinds.ps (falls 5 walk-kinds.ps _<_ μ-walk t) walk.Pre
+
+abbrev knows : ℕ → walk-lts.Claims
+knows t = (
+  node-at-reads.Asked,
+  node-at-reads.Learnt,
+  opening-reads.Asked,
+  opening-reads.Learnt,
+  visit-leaf-reads.Asked,
+  visit-leaf-reads.Learnt,
+  nearest-reads.Asked,
+  nearest-reads.Learnt,
+  nearer-around-reads.Asked,
+  nearer-around-reads.Learnt,
+  enough-reads.Asked,
+  enough-reads.Learnt,
+  walk-below t,
+  walk.Post,
+)
+
+abbrev walk-Inv-loop : walk-lts.InvT-loop
+walk-Inv-loop table slot level q k numbers₀ xs₀ ys₀ squares₀ n so-far₀ below row count i₀ numbers xs ys squares so-far i =
+    (i ≤ count)
+    × Noted q
+    (each (entered q k (walkOf q k (level - 1) table)) (take i (nearestFirst q k (held n))) (foundIn (rows numbers₀ xs₀ ys₀ squares₀) so-far₀))
+    (rows numbers₀ xs₀ ys₀ squares₀) (rows numbers xs ys squares) so-far
+    × (length numbers ≡ length numbers₀) × (length xs ≡ length xs₀) × (length ys ≡ length ys₀) × (length squares ≡ length squares₀)
+
+abbrev walk-μ-loop : walk-lts.MeasureT-loop
+walk-μ-loop table slot level q k numbers₀ xs₀ ys₀ squares₀ n so-far₀ below row count i₀ numbers xs ys squares so-far i = count - i
+
+-- what the loop rests on
+abbrev AtLoop : ℕ → Type 0
+AtLoop t = walk-lts.At-loop (knows t) (walk-at t) walk.Post walk-Inv-loop walk-μ-loop
+
+abbrev InLoop : ℕ → Type 0
+InLoop t = walk-lts.In-loop (knows t) (walk-at t) walk.Post walk-Inv-loop walk-μ-loop
+
+turns-here : (t : ℕ) (l : AtLoop t)
+    → let o = l .before .before .before in
+    let a = o .before .before .before .args in
+    Turns (IsChild (a .table .now) (a .level - 1)) (a .q) (a .k) (entered (a .q) (a .k) (walkOf (a .q) (a .k) (a .level - 1) (a .table .now))) (o .before .node-at .result)
+    (foundIn (rows (a .numbers .now) (a .xs .now) (a .ys .now) (a .squares .now)) (o .opening .result)) (rows (a .numbers .now) (a .xs .now) (a .ys .now) (a .squares .now))
+turns-here t l =
+    let o = l .before .before .before in
+    let s = o .before .before .before in
+    let a = s .args in
+    let n = o .before .node-at .result in
+    rw (o .opening .ensures)
+    (above-turns (a .q) (a .k) (a .table .now) (a .slot) (a .level) n (rows (a .numbers .now) (a .xs .now) (a .ys .now) (a .squares .now)) (a .seen) (o .before .node-at .ensures) (s .pre .1 .0 .1) (s .pre .1 .1)
+    (omega (arith, l .before .before .if1 .left)) (full n (o .before .node-at .ok)))
+
+turn-here : (t : ℕ) (w : InLoop t)
+    → let l = w .before in
+    let o = l .before .before .before in
+    let a = o .before .before .before .args in
+    Turn (IsChild (a .table .now) (a .level - 1)) (a .q) (a .k) (entered (a .q) (a .k) (walkOf (a .q) (a .k) (a .level - 1) (a .table .now))) (o .before .node-at .result)
+    (foundIn (rows (a .numbers .now) (a .xs .now) (a .ys .now) (a .squares .now)) (o .opening .result)) (rows (a .numbers .now) (a .xs .now) (a .ys .now) (a .squares .now)) (l .before .nearest .result) (l .loop .i)
+    (rows (l .loop .numbers) (l .loop .xs) (l .loop .ys) (l .loop .squares)) (l .loop .so-far)
+turn-here t w =
+    let l = w .before in
+    turn (turns-here t l) (l .loop .i) (l .before .nearest .ensures) (w .loop-test .taken) (l .loop .inv .1)
+
+walk-node-at-requires : (t : ℕ) → walk-lts.Need-node-at-requires (knows t) (walk-at t) walk.Post walk-Inv-loop walk-μ-loop
+walk-node-at-requires t c κs =
+    let s = c .before in
+    (s .pre .1 .0 .0, passable-slot (s .args .level) (s .args .table .now) (s .args .slot) (s .pre .1 .0 .1))
+
+walk-opening-requires : (t : ℕ) → walk-lts.Need-opening-requires (knows t) (walk-at t) walk.Post walk-Inv-loop walk-μ-loop
+walk-opening-requires t c κs =
+    let s = c .before .before in
+    let a = s .args in
+    let first = rows (a .numbers .now) (a .xs .now) (a .ys .now) (a .squares .now) in
+    omega (arith, walk-opens (a .q) (a .k) (a .level) (a .table .now) (a .slot) (foundIn first (a .seen)) .opened, s .pre .1 .1 .opened)
+
+walk-visit-leaf-requires : (t : ℕ) → walk-lts.Need-visit-leaf-requires (knows t) (walk-at t) walk.Post walk-Inv-loop walk-μ-loop
+walk-visit-leaf-requires t c κs =
+    let f = c .before .before .before .before in
+    let o = f .before .before in
+    let s = o .before .before in
+    let a = s .args in
+    let n = o .node-at .result in
+    let first = rows (a .numbers .now) (a .xs .now) (a .ys .now) (a .squares .now) in (
+      (node-few (a .q) (a .k) (a .table .now) (a .slot) (a .level) n first (a .seen) (o .node-at .ensures) (s .pre .1 .0 .1) (s .pre .1 .1), leaf-points (a .q) (a .k) (a .table .now) (a .slot) (a .level) n first (a .seen) (o .node-at .ensures) (s .pre .1 .0 .1) (s .pre .1 .1) (f .if1 .taken)),
+      rw (f .before .opening .ensures) (leaf-ready (a .q) (a .k) (a .table .now) (a .slot) (a .level) n first (a .seen) (o .node-at .ensures) (s .pre .1 .0 .1) (s .pre .1 .1) (f .if1 .taken)),
+    )
+
+walk-same-length : (t : ℕ) → walk-lts.Need-same-length (knows t) (walk-at t) walk.Post walk-Inv-loop walk-μ-loop
+walk-same-length t c = search needs
+
+walk-same-length-2 : (t : ℕ) → walk-lts.Need-same-length-2 (knows t) (walk-at t) walk.Post walk-Inv-loop walk-μ-loop
+walk-same-length-2 t c = search needs
+
+walk-same-length-3 : (t : ℕ) → walk-lts.Need-same-length-3 (knows t) (walk-at t) walk.Post walk-Inv-loop walk-μ-loop
+walk-same-length-3 t c = search needs
+
+walk-same-length-4 : (t : ℕ) → walk-lts.Need-same-length-4 (knows t) (walk-at t) walk.Post walk-Inv-loop walk-μ-loop
+walk-same-length-4 t c = search needs
+
+walk-returns : (t : ℕ) → walk-lts.Need-returns (knows t) (walk-at t) walk.Post walk-Inv-loop walk-μ-loop
+walk-returns t c =
+    let v = c .before .before .before .before .before in
+    let f = v .before .before .before .before .before in
+    let o = f .before .before in
+    let s = o .before .before in
+    let a = s .args in
+    let n = o .node-at .result in
+    let first = rows (a .numbers .now) (a .xs .now) (a .ys .now) (a .squares .now) in
+    rw (leaf-whole (a .q) (a .k) (a .table .now) (a .slot) (a .level) n first (a .seen) (o .node-at .ensures) (s .pre .1 .0 .1) (s .pre .1 .1) (f .if1 .taken) (foundIn first (a .seen))) (rw (f .before .opening .ensures) at (v .visit-leaf .ensures))
+
+walk-sub-below : (t : ℕ) → walk-lts.Need-sub-below (knows t) (walk-at t) walk.Post walk-Inv-loop walk-μ-loop
+walk-sub-below t c = omega (arith, c .if1 .left)
+
+walk-nearest-requires : (t : ℕ) → walk-lts.Need-nearest-requires (knows t) (walk-at t) walk.Post walk-Inv-loop walk-μ-loop
+walk-nearest-requires t c κs =
+    let o = c .before .before in
+    let s = o .before .before in
+    let a = s .args in
+    let n = o .node-at .result in
+    let first = rows (a .numbers .now) (a .xs .now) (a .ys .now) (a .squares .now) in
+    let P : Entry → Type 0 = IsChild (a .table .now) (a .level - 1) in (
+      node-few (a .q) (a .k) (a .table .now) (a .slot) (a .level) n first (a .seen) (o .node-at .ensures) (s .pre .1 .0 .1) (s .pre .1 .1),
+      s .pre .1 .1 .grid,
+      all-then P (λ e. RectOnGrid (e .rect)) (λ e h. h .0) (held n) (above-all (a .q) (a .k) (a .table .now) (a .slot) (a .level) n first (a .seen) (o .node-at .ensures) (s .pre .1 .0 .1) (s .pre .1 .1) (omega (arith, c .if1 .left))),
+    )
+
+walk-loop-holds : (t : ℕ) → walk-lts.Need-loop-holds (knows t) (walk-at t) walk.Post walk-Inv-loop walk-μ-loop
+walk-loop-holds t c =
+    let s = c .before .before .before .before .before in
+    (omega arith, rw (c .before .before .opening .ensures) (noted-same (s .pre .1 .1 .kept)), refl, refl, refl, refl)
+
+walk-mul-at : (t : ℕ) → walk-lts.Need-mul-at (knows t) (walk-at t) walk.Post walk-Inv-loop walk-μ-loop
+walk-mul-at t c =
+    let x = turn-here t c in
+    omega (arith, x .below, x .few, c .loop-test .taken)
+
+walk-array-read-at : (t : ℕ) → walk-lts.Need-array-read-at (knows t) (walk-at t) walk.Post walk-Inv-loop walk-μ-loop
+walk-array-read-at t c =
+    let x = turn-here t c in
+    omega (arith, x .below, x .few, c .loop-test .taken)
+
+walk-mul-e : (t : ℕ) → walk-lts.Need-mul-e (knows t) (walk-at t) walk.Post walk-Inv-loop walk-μ-loop
+walk-mul-e t c =
+    let x = turn-here t c in
+    omega (arith, x .below, x .few, c .loop-test .taken)
+
+walk-element-copy-out-e : (t : ℕ) → walk-lts.Need-element-copy-out-e (knows t) (walk-at t) walk.Post walk-Inv-loop walk-μ-loop
+walk-element-copy-out-e t c =
+    let x = turn-here t c in
+    omega (arith, x .below, x .few, c .loop-test .taken)
+
+walk-add-i : (t : ℕ) → walk-lts.Need-add-i (knows t) (walk-at t) walk.Post walk-Inv-loop walk-μ-loop
+walk-add-i t c = search needs
+
+walk-nearer-around-requires : (t : ℕ) → walk-lts.Need-nearer-around-requires (knows t) (walk-at t) walk.Post walk-Inv-loop walk-μ-loop
+walk-nearer-around-requires t c κs =
+    let x = turn-here t (c .before .before .before) in
+    ((x .kept .room .xs, x .kept .room .ys), (x .good .0, x .ready .grid, kept-grid (x .kept)))
+
+walk-enough-requires : (t : ℕ) → walk-lts.Need-enough-requires (knows t) (walk-at t) walk.Post walk-Inv-loop walk-μ-loop
+walk-enough-requires t c κs = search needs
+
+walk-loop-less : (t : ℕ) → walk-lts.Need-loop-less (knows t) (walk-at t) walk.Post walk-Inv-loop walk-μ-loop
+walk-loop-less t c = search needs
+
+walk-loop-again : (t : ℕ) → walk-lts.Need-loop-again (knows t) (walk-at t) walk.Post walk-Inv-loop walk-μ-loop
+walk-loop-again t c =
+    let w = c .before .before .before .before .before .before in
+    let x = turn-here t w in
+    let l = w .before in
+    let o = l .before .before .before in
+    let s = o .before .before .before in
+    let a = s .args in
+    let e = getD (o .before .node-at .result .entries) (getD (l .before .nearest .result) (l .loop .i) 0) blankEntry in
+    let r = rows (l .loop .numbers) (l .loop .xs) (l .loop .ys) (l .loop .squares) in (
+      omega (arith, w .loop-test .taken),
+      x .done _ _ (rw (enter-hidden e (a .q) (a .k) r (l .loop .so-far) _ _ (c .before .before .nearer-around .ensures) (c .before .enough .ensures) (walkOf (a .q) (a .k) (a .level - 1) (a .table .now)) (c .if2 .taken)) (noted-same (x .kept))),
+      l .loop .inv .2,
+      l .loop .inv .3,
+      l .loop .inv .4,
+      l .loop .inv .5,
+    )
+
+walk-walk-requires : (t : ℕ) → walk-lts.Need-walk-requires (knows t) (walk-at t) walk.Post walk-Inv-loop walk-μ-loop
+walk-walk-requires t c κs =
+    let f = c .before .before .before .before in
+    let w = f .before .before .before .before .before .before in
+    let x = turn-here t w in
+    let l = w .before in
+    let o = l .before .before .before in
+    let s = o .before .before .before in
+    let a = s .args in
+    let e = getD (o .before .node-at .result .entries) (getD (l .before .nearest .result) (l .loop .i) 0) blankEntry in
+    let r = rows (l .loop .numbers) (l .loop .xs) (l .loop .ys) (l .loop .squares) in (
+      omega (arith, s .pre .0, l .before .before .if1 .left),
+      ((s .pre .1 .0 .0, x .good .1), enter-ready e (a .q) (a .k) r (l .loop .so-far) _ _ (f .before .before .nearer-around .ensures) (f .before .enough .ensures) (walkOf (a .q) (a .k) (a .level - 1) (a .table .now)) (f .if2 .left) (x .ready)),
+    )
+
+walk-loop-less-2 : (t : ℕ) → walk-lts.Need-loop-less-2 (knows t) (walk-at t) walk.Post walk-Inv-loop walk-μ-loop
+walk-loop-less-2 t c = search needs
+
+walk-loop-again-2 : (t : ℕ) → walk-lts.Need-loop-again-2 (knows t) (walk-at t) walk.Post walk-Inv-loop walk-μ-loop
+walk-loop-again-2 t c =
+    let v = c .before .before .before .before .before in
+    let f = v .before .before .before .before .before in
+    let w = f .before .before .before .before .before .before in
+    let l = w .before in
+    let o = l .before .before .before in
+    let s = o .before .before .before in
+    let a = s .args in
+    let e = getD (o .before .node-at .result .entries) (getD (l .before .nearest .result) (l .loop .i) 0) blankEntry in
+    let r = rows (l .loop .numbers) (l .loop .xs) (l .loop .ys) (l .loop .squares) in (
+      omega (arith, w .loop-test .taken),
+      turn-here t w .done _ _ (rw (enter-open e (a .q) (a .k) r (l .loop .so-far) _ _ (f .before .before .nearer-around .ensures) (f .before .enough .ensures) (walkOf (a .q) (a .k) (a .level - 1) (a .table .now)) (f .if2 .left)) (v .walk .ensures)),
+      v .walk .kept .1 .1 .1 .1 .1 .0 ∙ l .loop .inv .2,
+      v .walk .kept .1 .1 .1 .1 .1 .1 .0 ∙ l .loop .inv .3,
+      v .walk .kept .1 .1 .1 .1 .1 .1 .1 .0 ∙ l .loop .inv .4,
+      v .walk .kept .1 .1 .1 .1 .1 .1 .1 .1 .0 ∙ l .loop .inv .5,
+    )
+
+walk-same-length-5 : (t : ℕ) → walk-lts.Need-same-length-5 (knows t) (walk-at t) walk.Post walk-Inv-loop walk-μ-loop
+walk-same-length-5 t c = search needs
+
+walk-same-length-6 : (t : ℕ) → walk-lts.Need-same-length-6 (knows t) (walk-at t) walk.Post walk-Inv-loop walk-μ-loop
+walk-same-length-6 t c = search needs
+
+walk-same-length-7 : (t : ℕ) → walk-lts.Need-same-length-7 (knows t) (walk-at t) walk.Post walk-Inv-loop walk-μ-loop
+walk-same-length-7 t c = search needs
+
+walk-same-length-8 : (t : ℕ) → walk-lts.Need-same-length-8 (knows t) (walk-at t) walk.Post walk-Inv-loop walk-μ-loop
+walk-same-length-8 t c = search needs
+
+walk-returns-2 : (t : ℕ) → walk-lts.Need-returns-2 (knows t) (walk-at t) walk.Post walk-Inv-loop walk-μ-loop
+walk-returns-2 t c =
+    let l = c .before in
+    let o = l .before .before .before in
+    let s = o .before .before .before in
+    let a = s .args in
+    let first = rows (a .numbers .now) (a .xs .now) (a .ys .now) (a .squares .now) in
+    rw (above-whole (a .q) (a .k) (a .table .now) (a .slot) (a .level) (o .before .node-at .result) first (a .seen) (o .before .node-at .ensures) (s .pre .1 .0 .1) (s .pre .1 .1) (omega (arith, l .before .before .if1 .left)) (foundIn first (a .seen)))
+    (rw (turns-end (turns-here t l) (l .loop .i) (c .loop-test .left), o .opening .ensures) at (l .loop .inv .1))
+
+pub +walk-spec : {M : Type 1} → statement M
++walk-spec =
+    close
+    μ-walk
+    λ t. walk-lts.spec
+    (knows t)
+    (walk-at t)
+    walk.Post
+    walk-Inv-loop
+    walk-μ-loop
+    (walk-node-at-requires t)
+    (walk-opening-requires t)
+    (walk-visit-leaf-requires t)
+    (walk-same-length t)
+    (walk-same-length-2 t)
+    (walk-same-length-3 t)
+    (walk-same-length-4 t)
+    (walk-returns t)
+    (walk-sub-below t)
+    (walk-nearest-requires t)
+    (walk-loop-holds t)
+    (walk-mul-at t)
+    (walk-array-read-at t)
+    (walk-mul-e t)
+    (walk-element-copy-out-e t)
+    (walk-add-i t)
+    (walk-nearer-around-requires t)
+    (walk-enough-requires t)
+    (walk-loop-less t)
+    (walk-loop-again t)
+    (walk-walk-requires t)
+    (walk-loop-less-2 t)
+    (walk-loop-again-2 t)
+    (walk-same-length-5 t)
+    (walk-same-length-6 t)
+    (walk-same-length-7 t)
+    (walk-same-length-8 t)
+    (walk-returns-2 t)

@@ -1,0 +1,51 @@
+// The whole walk of a query.
+ghost use mathlib.Core.Path.{_≡_};
+ghost use mathlib.Core.Bool.{true};
+ghost use lib.ListN.{length};
+ghost use Rattle.grid.specs.Word.{IsWord, onGrid};
+ghost use Rattle.grid.specs.Site.{placeOf};
+ghost use Rattle.order.specs.Lists.{All};
+ghost use Rattle.table.specs.Figures.{LENGTH};
+ghost use Rattle.table.specs.Words.{pointsOf};
+ghost use Rattle.table.specs.Rules.{wellFormed};
+ghost use Rattle.filter.specs.Query.{found};
+ghost use Rattle.filter.specs.Rows.{rows, Room, Noted};
+use crate::seen::Seen;
+use crate::walk::walk;
+use grid::border::steps;
+use grid::place::Place;
+use table::slot::level_at;
+use table::slot::points_of;
+use table::slot::root_of;
+
+// From the root down; the empty table has no root to open.
+pub fn find(
+    table: &[i32],
+    x: i32,
+    y: i32,
+    k: usize,
+    numbers: &mut [i32],
+    xs: &mut [i32],
+    ys: &mut [i32],
+    squares: &mut [u64],
+) -> Seen
+    requires { ⌜ (length (now table) ≡ LENGTH) × All IsWord (now table) × (wellFormed (now table) ≡ true) ⌝ }
+    requires { ⌜ (onGrid x ≡ true) × (onGrid y ≡ true) ⌝ }
+    requires { ⌜ Room (pointsOf (now table)) (rows (now numbers) (now xs) (now ys) (now squares)) ⌝ }
+    ensures { λ r. ⌜
+        Noted (placeOf (record { x = x; y = y })) (found (now (table .entry)) (record { x = x; y = y }) k)
+        (rows (now (numbers .entry)) (now (xs .entry)) (now (ys .entry)) (now (squares .entry)))
+        (rows (now (numbers .exit)) (now (xs .exit)) (now (ys .exit)) (now (squares .exit))) r ⌝ }
+{
+    let none = Seen::none();
+    if points_of(table) == 0 {
+        return none;
+    }
+    let q = Place {
+        x: steps(x),
+        y: steps(y),
+    };
+    let root = root_of(table);
+    let level = level_at(table, root);
+    walk(table, root, level, q, k, numbers, xs, ys, squares, none)
+}

@@ -1,0 +1,93 @@
+// The filter walk: it opens a node, takes the entries nearest first, and calls itself on each child that it opens.
+ghost use mathlib.Core.Path.{_≡_};
+ghost use mathlib.Core.Bool.{true};
+ghost use Prim.Native.Nat.{_≤_};
+ghost use lib.ListN.{length};
+ghost use Rattle.order.specs.Lists.{All};
+ghost use Rattle.table.specs.Figures.{LENGTH};
+ghost use Rattle.table.specs.Page.{held};
+ghost use Rattle.table.specs.Rules.{isPoint};
+ghost use Rattle.filter.specs.Walk.{each, nearestFirst, visited, walk as walkOf};
+ghost use Rattle.filter.specs.Rows.{rows, Ready, Went};
+ghost use Rattle.filter.specs.Passable.{Passable};
+use crate::candidate::visit;
+use crate::discard::enough;
+use crate::discard::nearer_around;
+use crate::nearest::nearest;
+use crate::seen::Seen;
+use grid::place::Place;
+use table::node::Node;
+use table::slot::node_at;
+
+// The points of a leaf, nearest first.
+fn visit_leaf(
+    n: Node,
+    q: Place,
+    k: usize,
+    numbers: &mut [i32],
+    xs: &mut [i32],
+    ys: &mut [i32],
+    squares: &mut [u64],
+    seen: Seen,
+) -> Seen
+    requires { ⌜ (n .count ≤ 10) × All (λ e. isPoint e ≡ true) (held n) ⌝ }
+    requires { ⌜ Ready q (each (visited q k) (nearestFirst q k (held n))) (rows (now numbers) (now xs) (now ys) (now squares)) seen ⌝ }
+    ensures { λ r. ⌜
+        Went q (each (visited q k) (nearestFirst q k (held n)))
+        (rows (now (numbers .entry)) (now (xs .entry)) (now (ys .entry)) (now (squares .entry))) seen
+        (rows (now (numbers .exit)) (now (xs .exit)) (now (ys .exit)) (now (squares .exit))) r ⌝ }
+{
+    let row = nearest(n, q);
+    let count = n.count;
+    let mut so_far = seen;
+    let mut i = 0;
+    while i < count {
+        let at = row[i];
+        let e = n.entries[at];
+        so_far = visit(e, q, k, numbers, xs, ys, squares, so_far);
+        i += 1;
+    }
+    so_far
+}
+
+// The node in a slot, and what is below it.
+pub fn walk(
+    table: &[i32],
+    slot: usize,
+    level: usize,
+    q: Place,
+    k: usize,
+    numbers: &mut [i32],
+    xs: &mut [i32],
+    ys: &mut [i32],
+    squares: &mut [u64],
+    seen: Seen,
+) -> Seen
+    requires { ⌜ (length (now table) ≡ LENGTH) × Passable level (now table) slot ⌝ }
+    requires { ⌜ Ready q (walkOf q k level (now table) slot) (rows (now numbers) (now xs) (now ys) (now squares)) seen ⌝ }
+    ensures { λ r. ⌜
+        Went q (walkOf q k level (now (table .entry)) slot)
+        (rows (now (numbers .entry)) (now (xs .entry)) (now (ys .entry)) (now (squares .entry))) seen
+        (rows (now (numbers .exit)) (now (xs .exit)) (now (ys .exit)) (now (squares .exit))) r ⌝ }
+{
+    let n = node_at(table, slot);
+    let mut so_far = seen.opening();
+    if level == 0 {
+        return visit_leaf(n, q, k, numbers, xs, ys, squares, so_far);
+    }
+    let below = level - 1;
+    let row = nearest(n, q);
+    let count = n.count;
+    let mut i = 0;
+    while i < count {
+        let at = row[i];
+        let e = n.entries[at];
+        i += 1;
+        if enough(nearer_around(xs, ys, so_far.candidates, e.rect, q), k) {
+            continue;
+        }
+        let child = e.reference;
+        so_far = walk(table, child, below, q, k, numbers, xs, ys, squares, so_far);
+    }
+    so_far
+}
