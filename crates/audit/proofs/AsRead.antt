@@ -10,7 +10,7 @@ use Rattle.order.proofs.Lists.{join-append, all-mem, mem-all}
 use Rattle.table.specs.declared.node.Entry.{Entry}
 use Rattle.table.specs.Words.{Words}
 use Rattle.table.specs.Slots.{entriesAt}
-use Rattle.table.specs.Rules.{leafEntries, refsAt}
+use Rattle.audit.specs.Rules.{leafEntries, refsAt}
 use Rattle.table.specs.Tree.{Tree, bough, topOf, entryOfTree, entriesOfTree, slotsOf, leavesOf, Stored}
 use Rattle.audit.proofs.Joined.{join-mem, join-join, join-same}
 use Rattle.audit.proofs.Reading.{Good, good-child, top-inside, entry-reference, stored-child, stored-used, stored-level, stored-entries}

@@ -14,7 +14,7 @@ use Rattle.order.proofs.Lists.{by-bool, filter-mem, mem-filter, perm-join}
 use Rattle.table.specs.Figures.{SLOTS}
 use Rattle.table.specs.Words.{Words}
 use Rattle.table.specs.Slots.{slots, isFree}
-use Rattle.table.specs.Rules.{leafEntries, refsAt}
+use Rattle.audit.specs.Rules.{leafEntries, refsAt}
 use Rattle.table.specs.Tree.{Tree, topOf, slotsOf, leavesOf}
 use Rattle.audit.proofs.Joined.{nodup-perm}
 use Rattle.audit.proofs.Counted.{mem-up, up-mem, nodup-up, filter-nodup, filter-both}

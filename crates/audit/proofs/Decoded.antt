@@ -17,7 +17,8 @@ use Rattle.table.specs.Figures.{LEAST, SLOTS}
 use Rattle.table.specs.Words.{Words, rootOf, pointsOf, partAt}
 use Rattle.table.specs.Page.{page, pageWords, coverOf}
 use Rattle.table.specs.Slots.{slots, isFree, levelAt, entriesAt}
-use Rattle.table.specs.Rules.{isRoot, isPoint, leafEntries, entriesAbove, refsAt}
+use Rattle.audit.specs.Rules.{isRoot, leafEntries, entriesAbove, refsAt}
+use Rattle.table.specs.Stations.{isPoint}
 use Rattle.table.specs.Tree.{Tree, topOf, entryOfTree, entriesOfTree, slotsOf, leavesOf, Filled, leastOf, Stored, Sound, Holds}
 use Rattle.table.proofs.Nodes.{entry-ext, page-ext}
 use Rattle.audit.proofs.Tests.{by-test}

@@ -15,11 +15,11 @@ use Rattle.order.specs.Lists.{every, join, All}
 use Rattle.order.specs.Order.{upFrom}
 use Rattle.table.specs.declared.node.Entry.{Entry}
 use Rattle.table.specs.Figures.{FAN, MOST, SLOTS, ENTRY}
-use Rattle.table.specs.Words.{Words, word, isZero, rootOf, pointsOf, partAt}
+use Rattle.table.specs.Words.{Words, word, isZero, rootOf, pointsOf, partAt, between}
 use Rattle.table.specs.Page.{Page, filled, pageWords, freeWords, coverOf}
 use Rattle.table.specs.Slots.{slots, isFree, levelAt, entriesAt}
-use Rattle.table.specs.Stations.{stations}
-use Rattle.table.specs.Rules.{between, isNatural, rule1, isEmpty, rule2, leastFill, rule3, isPoint, leafEntries, numbersAt, eachNew, rule4, isChild, entriesAbove, rule5, sameSpan, sameRect, rule6, isRoot, timesReferred, rule7, rule7Header}
+use Rattle.table.specs.Stations.{stations, isPoint}
+use Rattle.audit.specs.Rules.{isNatural, rule1, isEmpty, rule2, leastFill, rule3, leafEntries, numbersAt, eachNew, rule4, isChild, entriesAbove, rule5, sameSpan, sameRect, rule6, isRoot, timesReferred, rule7, rule7Header}
 use Rattle.audit.proofs.Tests.{and-left, and-right, both-true, between-true, true-between, or-other, or-second, every-all, all-every}
 use Rattle.audit.proofs.Joined.{all-then}
 use Rattle.audit.proofs.PartWords.{free-zeros, page-zeros}

@@ -20,9 +20,9 @@ use Rattle.table.specs.Figures.{SLOTS, WIDTH, LENGTH}
 use Rattle.table.specs.Words.{Words, word, isMinusOne, pointsOf, startOf, partAt}
 use Rattle.table.specs.Page.{freeWords, coverOf}
 use Rattle.table.specs.Slots.{slots, isFree, entriesAt}
-use Rattle.table.specs.Stations.{stations}
+use Rattle.table.specs.Stations.{stations, isPoint}
 use Rattle.table.specs.Empty.{freeSlots, emptyTable}
-use Rattle.table.specs.Rules.{isEmpty, isPoint, leafEntries, numbersAt, eachNew, entriesAbove}
+use Rattle.audit.specs.Rules.{isEmpty, leafEntries, numbersAt, eachNew, entriesAbove}
 use Rattle.table.proofs.Slots.{free-length, free-part-free}
 use Rattle.audit.proofs.Tests.{and-left, and-right, both-true}
 use Rattle.audit.proofs.Joined.{join-same, all-join}

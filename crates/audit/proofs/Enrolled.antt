@@ -15,7 +15,7 @@ use Rattle.table.specs.Words.{Words, word, partAt}
 use Rattle.table.specs.Page.{entryOf, filled, pageOf}
 use Rattle.table.specs.Slots.{slots, pageAt, entriesAt}
 use Rattle.table.specs.Stations.{stationOf, stationOfEntry, isLeaf, stationsAt, stations}
-use Rattle.table.specs.Rules.{leafEntries}
+use Rattle.audit.specs.Rules.{leafEntries}
 use Rattle.audit.proofs.Joined.{join-same, map-join}
 use Rattle.audit.proofs.Counted.{up-mem}
 

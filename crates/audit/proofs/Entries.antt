@@ -14,10 +14,11 @@ use Rattle.order.proofs.Lists.{all-mem, mem-all, all-at}
 use Rattle.table.specs.declared.node.Entry.{Entry}
 use Rattle.table.specs.declared.node.Node.{Node}
 use Rattle.table.specs.Figures.{SLOTS, HIGHEST}
-use Rattle.table.specs.Words.{Words}
+use Rattle.table.specs.Words.{Words, between}
 use Rattle.table.specs.Page.{Page, Shows, held, blankEntry}
 use Rattle.table.specs.Slots.{pageAt, entriesAt}
-use Rattle.table.specs.Rules.{between, isPoint, isAbove, isChild, rule5}
+use Rattle.table.specs.Stations.{isPoint}
+use Rattle.audit.specs.Rules.{isAbove, isChild, rule5}
 use Rattle.table.proofs.Nodes.{page-at, held-length}
 use Rattle.audit.specs.Seen.{refsOf}
 use Rattle.audit.proofs.Tests.{and-left, and-right, every-all}

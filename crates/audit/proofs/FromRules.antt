@@ -14,7 +14,8 @@ use Rattle.table.specs.Figures.{SLOTS, WIDTH, LENGTH}
 use Rattle.table.specs.Words.{Words, word, startOf, partAt}
 use Rattle.table.specs.Page.{pageOf, pageWords, freeWords}
 use Rattle.table.specs.Slots.{isFree, pageAt, levelAt, entriesAt}
-use Rattle.table.specs.Rules.{isNatural, isEmpty, isPoint, numbersAt}
+use Rattle.audit.specs.Rules.{isNatural, isEmpty, numbersAt}
+use Rattle.table.specs.Stations.{isPoint}
 use Rattle.table.proofs.Slots.{part-length}
 use Rattle.audit.proofs.Joined.{all-then}
 use Rattle.audit.proofs.Reading.{point}

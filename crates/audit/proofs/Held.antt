@@ -18,7 +18,7 @@ use Rattle.table.specs.Words.{Words, isMinusOne, pointsOf, partAt}
 use Rattle.table.specs.Page.{Page, page, pageWords, freeWords}
 use Rattle.table.specs.Slots.{slots, isFree, lowestFree}
 use Rattle.table.specs.Stations.{stationOfEntry, stations}
-use Rattle.table.specs.Rules.{isEmpty}
+use Rattle.audit.specs.Rules.{isEmpty}
 use Rattle.table.specs.Tree.{Tree, entriesOfTree, slotsOf, leavesOf, leastOf, Sound, Holds}
 use Rattle.table.proofs.Slots.{free-part-free, lowest-least}
 use Rattle.audit.proofs.Tests.{by-test}

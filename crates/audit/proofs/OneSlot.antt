@@ -15,7 +15,7 @@ use Rattle.table.specs.Words.{Words, word, isMinusOne, rootOf, partAt}
 use Rattle.table.specs.Page.{pageOf}
 use Rattle.table.specs.Slots.{isFree, pageAt, levelAt, entriesAt}
 use Rattle.table.specs.Stations.{isLeaf}
-use Rattle.table.specs.Rules.{isRoot, leastFill, leafEntries, isAbove, entriesAbove}
+use Rattle.audit.specs.Rules.{isRoot, leastFill, leafEntries, isAbove, entriesAbove}
 use Rattle.table.specs.Tree.{leastOf}
 use Rattle.audit.proofs.Tests.{or-false}
 

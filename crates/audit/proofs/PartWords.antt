@@ -19,7 +19,7 @@ use Rattle.table.specs.declared.node.Entry.{Entry}
 use Rattle.table.specs.Figures.{FAN, ENTRY, WIDTH}
 use Rattle.table.specs.Words.{Words, word, isZero}
 use Rattle.table.specs.Page.{Page, entryOf, filled, pageOf, entryWords, entriesWords, pageWords, freeWords, EntryFits, PageFits}
-use Rattle.table.specs.Rules.{isNatural, usedWords}
+use Rattle.audit.specs.Rules.{isNatural, usedWords}
 use Rattle.table.proofs.Slots.{entries-length}
 use Rattle.audit.proofs.Tests.{and-left, and-right}
 

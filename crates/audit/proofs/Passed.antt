@@ -6,7 +6,7 @@ use Rattle.order.specs.Lists.{every}
 use Rattle.table.specs.Figures.{SLOTS}
 use Rattle.table.specs.Words.{Words}
 use Rattle.table.specs.Slots.{slots}
-use Rattle.table.specs.Rules.{rule1, rule2, rule3, rule4, rule5, rule6, rule7, rule7Header, wellFormed}
+use Rattle.audit.specs.Rules.{rule1, rule2, rule3, rule4, rule5, rule6, rule7, rule7Header, wellFormed}
 use Rattle.audit.proofs.Tests.{and-left, and-right, both-true}
 use Rattle.audit.proofs.Counted.{every-below, below-every}
 

@@ -19,10 +19,10 @@ use Rattle.order.specs.Lists.{Mem, All, NoDup}
 use Rattle.order.proofs.Lists.{map-at, all-mem, mem-all}
 use Rattle.table.specs.declared.node.Entry.{Entry}
 use Rattle.table.specs.Figures.{FAN, LEAST, SLOTS, HIGHEST}
-use Rattle.table.specs.Words.{Words, rootOf, pointsOf, partAt}
+use Rattle.table.specs.Words.{Words, rootOf, pointsOf, partAt, between}
 use Rattle.table.specs.Page.{Page, page, pageOf, pageWords, EntryFits, PageFits, blankEntry, coverOf}
 use Rattle.table.specs.Slots.{isFree, pageAt, levelAt, entriesAt, entryFor}
-use Rattle.table.specs.Rules.{between, spanIsSpot, isPoint}
+use Rattle.table.specs.Stations.{spanIsSpot, isPoint}
 use Rattle.table.specs.Tree.{Tree, bough, topOf, entryOfTree, entriesOfTree, slotsOf, leavesOf, Filled, leastOf, Stored, Sound, Holds}
 use Rattle.table.proofs.Cover.{cover-closed}
 use Rattle.table.proofs.Slots.{page-back, page-part-used}

@@ -15,7 +15,7 @@ use Rattle.order.proofs.Lists.{count-append}
 use Rattle.table.specs.Figures.{FAN, SLOTS}
 use Rattle.table.specs.Words.{Words}
 use Rattle.table.specs.Slots.{entriesAt}
-use Rattle.table.specs.Rules.{isAbove, refsAt}
+use Rattle.audit.specs.Rules.{isAbove, refsAt}
 use Rattle.table.proofs.Slots.{page-few}
 use Rattle.audit.specs.Seen.{Tally}
 use Rattle.audit.proofs.Tests.{by-test}

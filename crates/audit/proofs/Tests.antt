@@ -6,7 +6,7 @@ use mathlib.Core.List.{List, [], _∷_}
 use lib.Dec.{leb}
 use borrow.Author.Tests.{leb-true, le-leb}
 use Rattle.order.specs.Lists.{every, All}
-use Rattle.table.specs.Rules.{between}
+use Rattle.table.specs.Words.{between}
 
 -- by the outcome of a test
 pub by-test : (b : Bool) {P : Type 0} → (b ≡ true → P) → (b ≡ false → P) → P

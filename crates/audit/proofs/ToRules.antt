@@ -16,7 +16,8 @@ use Rattle.table.specs.Figures.{FAN, SLOTS}
 use Rattle.table.specs.Words.{Words, partAt}
 use Rattle.table.specs.Page.{Page, page, pageWords, coverOf}
 use Rattle.table.specs.Slots.{slots, isFree, levelAt, entriesAt}
-use Rattle.table.specs.Rules.{isRoot, leastFill, isPoint, leafEntries, numbersAt, entriesAbove, timesReferred}
+use Rattle.audit.specs.Rules.{isRoot, leastFill, leafEntries, numbersAt, entriesAbove, timesReferred}
+use Rattle.table.specs.Stations.{isPoint}
 use Rattle.table.specs.Tree.{Tree, topOf, entryOfTree, entriesOfTree, slotsOf, leastOf, Stored, Sound, Holds}
 use Rattle.audit.proofs.Tests.{by-test}
 use Rattle.audit.proofs.Joined.{map-join, all-parts}

@@ -11,7 +11,7 @@ use Rattle.table.specs.Figures.{LENGTH}
 use Rattle.table.specs.Words.{Words}
 use Rattle.table.specs.Stations.{stations}
 use Rattle.table.specs.Empty.{emptyTable}
-use Rattle.table.specs.Rules.{isEmpty, wellFormed}
+use Rattle.audit.specs.Rules.{isEmpty, wellFormed}
 use Rattle.table.specs.Tree.{Tree, Sound, Holds}
 use Rattle.audit.proofs.Tests.{by-test}
 use Rattle.audit.proofs.Decoded.{rootLevel, wholeTree, decoded-sound, decoded-holds}

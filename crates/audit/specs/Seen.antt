@@ -8,7 +8,7 @@ use lib.ListN.{length, getD}
 use Rattle.order.specs.Lists.{count, has}
 use Rattle.table.specs.declared.node.Entry.{Entry}
 use Rattle.table.specs.Figures.{SLOTS, HIGHEST}
-use Rattle.table.specs.Rules.{eachNew}
+use Rattle.audit.specs.Rules.{eachNew}
 
 -- the references of some entries: point numbers in a leaf, child slots above
 abbrev pub refsOf : List Entry → List ℕ

@@ -6,7 +6,7 @@ ghost use lib.ListN.{length};
 ghost use Rattle.order.specs.Lists.{every};
 ghost use Rattle.table.specs.Figures.{SLOTS, LENGTH};
 ghost use Rattle.table.specs.Slots.{slots};
-ghost use Rattle.table.specs.Rules.{isAbove, isChild, sameSpan, sameRect, rule5, rule6};
+ghost use Rattle.audit.specs.Rules.{isAbove, isChild, sameSpan, sameRect, rule5, rule6};
 use grid::rect::Rect;
 use grid::span::Span;
 use table::figures::Table;

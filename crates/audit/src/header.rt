@@ -4,7 +4,7 @@ ghost use lib.ListN.{length};
 ghost use Rattle.order.specs.Lists.{every};
 ghost use Rattle.table.specs.Figures.{LENGTH};
 ghost use Rattle.table.specs.Slots.{slots, isFree};
-ghost use Rattle.table.specs.Rules.{isEmpty, rule2};
+ghost use Rattle.audit.specs.Rules.{isEmpty, rule2};
 use grid::border;
 use table::figures::Table;
 use table::part;

@@ -2,7 +2,7 @@
 // It promises, for every slice of words whatever, exactly 1, 2 or 0; and never reads past an end.
 // It stands on table (parts, nodes, slots). Its proofs hold the theorem that a well-formed table stores one sound tree.
 ghost use mathlib.Core.Path.{_≡_};
-ghost use Rattle.table.specs.Given.{checkGives};
+ghost use Rattle.audit.specs.Check.{checkGives};
 
 pub mod children;
 pub mod header;

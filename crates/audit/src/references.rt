@@ -10,7 +10,7 @@ ghost use Rattle.table.specs.Figures.{FAN, SLOTS, LENGTH};
 ghost use Rattle.table.specs.Page.{held};
 ghost use Rattle.table.specs.Slots.{slots};
 ghost use Rattle.table.specs.Stations.{stationsAt, stations};
-ghost use Rattle.table.specs.Rules.{refsAt, rule5, rule7, rule7Header};
+ghost use Rattle.audit.specs.Rules.{refsAt, rule5, rule7, rule7Header};
 ghost use Rattle.audit.specs.Seen.{refsOf, Tally};
 use crate::children;
 use table::figures::Table;

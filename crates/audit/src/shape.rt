@@ -6,7 +6,7 @@ ghost use Rattle.order.specs.Lists.{every};
 ghost use Rattle.table.specs.Figures.{SLOTS, LENGTH};
 ghost use Rattle.table.specs.Words.{isZero};
 ghost use Rattle.table.specs.Slots.{slots};
-ghost use Rattle.table.specs.Rules.{rule1, rule3, leastFill};
+ghost use Rattle.audit.specs.Rules.{rule1, rule3, leastFill};
 use grid::border;
 use table::figures::Table;
 use table::part;

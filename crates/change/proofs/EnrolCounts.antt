@@ -12,7 +12,8 @@ use Rattle.order.specs.Order.{Perm}
 use Rattle.order.proofs.Lists.{count-append, all-mem, mem-all, same-perm}
 use Rattle.table.specs.declared.node.Entry.{Entry}
 use Rattle.table.specs.Figures.{LEAST, SLOTS}
-use Rattle.table.specs.Rules.{isPoint, sameSpan, sameRect}
+use Rattle.table.specs.Stations.{isPoint}
+use Rattle.audit.specs.Rules.{sameSpan, sameRect}
 use Rattle.table.specs.Tree.{Tree, slotsOf, leavesOf, Filled}
 use Rattle.table.proofs.Slots.{entry-fields}
 use Rattle.audit.proofs.Tests.{and-left, and-right}

@@ -16,7 +16,7 @@ use Rattle.table.specs.Figures.{LEAST, SLOTS, LENGTH}
 use Rattle.table.specs.Words.{Words}
 use Rattle.table.specs.Page.{page}
 use Rattle.table.specs.Slots.{isFree, entriesAt, entryFor}
-use Rattle.table.specs.Rules.{isPoint}
+use Rattle.table.specs.Stations.{isPoint}
 use Rattle.table.specs.Tree.{Tree, topOf, entryOfTree, slotsOf, leavesOf, Filled, Stored}
 use Rattle.table.proofs.Slots.{page-part-used}
 use Rattle.change.specs.Choose.{entryIn, chosen}

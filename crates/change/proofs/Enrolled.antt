@@ -18,7 +18,7 @@ use Rattle.table.specs.Words.{Words, pointsOf, partAt}
 use Rattle.table.specs.Page.{page}
 use Rattle.table.specs.Empty.{emptyTable}
 use Rattle.table.specs.Slots.{slots, isFree, putPage, entryFor, withRoot, withPoints}
-use Rattle.table.specs.Rules.{isPoint}
+use Rattle.table.specs.Stations.{isPoint}
 use Rattle.table.specs.Tree.{Tree, bough, topOf, slotsOf, leavesOf, leastOf, Sound, Holds}
 use Rattle.table.proofs.Slots.{put-here, put-other, put-long, header-part}
 use Rattle.audit.proofs.Counted.{number-counted, number-missing, count-nodup}

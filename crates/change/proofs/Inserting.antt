@@ -15,7 +15,7 @@ use Rattle.table.specs.Words.{Words}
 use Rattle.table.specs.Page.{page, held, Shows, EntryFits, blankEntry}
 use Rattle.table.specs.Slots.{pageAt, levelAt, entriesAt, entryFor}
 use Rattle.table.proofs.Nodes.{shows-on}
-use Rattle.table.specs.Rules.{isPoint}
+use Rattle.table.specs.Stations.{isPoint}
 use Rattle.table.specs.Tree.{Tree, topOf, entryOfTree, entriesOfTree, slotsOf, leavesOf, Stored}
 use Rattle.audit.proofs.Joined.{all-map, all-then}
 use Rattle.audit.proofs.Reading.{Upright, point, point-upright, Good, good-child, top-inside, entry-reference, entries-upright, entry-upright, childAt, child-in, stored-child, stored-entries}

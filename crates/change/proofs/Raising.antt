@@ -16,7 +16,7 @@ use Rattle.table.specs.Figures.{LEAST, MOST, SLOTS}
 use Rattle.table.specs.Words.{Words, word, isMinusOne, rootOf, pointsOf}
 use Rattle.table.specs.Page.{page, held, shown, Shows, EntryFits}
 use Rattle.table.specs.Slots.{slots, isFree, levelAt, putPage, lowestFree, entryFor, withRoot, withPoints}
-use Rattle.table.specs.Rules.{isEmpty}
+use Rattle.audit.specs.Rules.{isEmpty}
 use Rattle.table.specs.Tree.{Tree, topOf, entryOfTree, slotsOf, leavesOf, leastOf}
 use Rattle.table.proofs.Nodes.{shown-page, shows-on}
 use Rattle.audit.proofs.Tests.{and-left, and-right, by-test}

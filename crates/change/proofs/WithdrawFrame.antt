@@ -14,7 +14,7 @@ use Rattle.table.specs.Figures.{FAN, SLOTS, LENGTH}
 use Rattle.table.specs.Words.{Words, word, partAt}
 use Rattle.table.specs.Page.{Page}
 use Rattle.table.specs.Slots.{putPage, freed}
-use Rattle.table.specs.Rules.{isPoint}
+use Rattle.table.specs.Stations.{isPoint}
 use Rattle.table.specs.Tree.{Tree, slotsOf, Stored}
 use Rattle.table.proofs.Slots.{put-other, put-long, put-header, freed-other, freed-long, freed-header}
 use Rattle.audit.proofs.Joined.{mem-join}

@@ -10,7 +10,7 @@ use Rattle.table.specs.Figures.{FAN}
 use Rattle.table.specs.Words.{Words, rootOf, pointsOf}
 use Rattle.table.specs.Page.{page, coverOf}
 use Rattle.table.specs.Slots.{levelAt, entriesAt, putPage, lowestFree, entryFor, withRoot, withPoints}
-use Rattle.table.specs.Rules.{isEmpty}
+use Rattle.audit.specs.Rules.{isEmpty}
 use Rattle.change.specs.Choose.{entryIn, chosen}
 use Rattle.change.specs.Share.{firstShare, otherShare}
 

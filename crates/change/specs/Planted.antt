@@ -6,7 +6,7 @@ use lib.ListN.{length}
 use Rattle.order.specs.Lists.{All, NoDup}
 use Rattle.table.specs.Figures.{SLOTS, LENGTH}
 use Rattle.table.specs.Words.{Words}
-use Rattle.table.specs.Rules.{isPoint}
+use Rattle.table.specs.Stations.{isPoint}
 use Rattle.table.specs.Tree.{Tree, topOf, slotsOf, leavesOf, leastOf, Filled, Stored}
 
 -- the words hold a tree of level l whose top is in slot s

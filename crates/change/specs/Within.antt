@@ -13,7 +13,8 @@ use Rattle.table.specs.Figures.{SLOTS, LENGTH}
 use Rattle.table.specs.Words.{Words}
 use Rattle.table.specs.Page.{held, EntryFits}
 use Rattle.table.specs.Slots.{slots, isFree, lowestFree, entryFor}
-use Rattle.table.specs.Rules.{isPoint, wellFormed}
+use Rattle.table.specs.Stations.{isPoint}
+use Rattle.audit.specs.Rules.{wellFormed}
 use Rattle.table.specs.Tree.{Tree, Sound, Holds}
 use Rattle.change.specs.declared.enrol.Up.{Up}
 use Rattle.change.specs.declared.enrol.Up.the-variants.{Same, New}

@@ -69,7 +69,8 @@ fn insert(table: &mut [i32], slot: usize, level: usize, e: Entry) -> Up
 {
     let n = slot::node_at(table, slot);
     if level == 0 {
-        return settle(table, slot, n.appended(e));
+        let more = n.appended(e);
+        return settle(table, slot, more);
     }
     let i = choose(n, e.rect);
     let taker = n.entries[i];

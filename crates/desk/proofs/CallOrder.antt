@@ -17,8 +17,9 @@ use Rattle.table.specs.declared.given.Given.the-variants.{Done, WrongLength, No
 use Rattle.table.proofs.given.Given.{the-type}
 use Rattle.table.specs.Figures.{LENGTH}
 use Rattle.table.specs.Words.{Words}
-use Rattle.table.specs.Rules.{wellFormed}
-use Rattle.table.specs.Given.{numberGiven, wrongLength, malformed, checkGives}
+use Rattle.audit.specs.Rules.{wellFormed}
+use Rattle.table.specs.Given.{numberGiven}
+use Rattle.audit.specs.Check.{wrongLength, malformed, checkGives}
 use Rattle.change.specs.Enrol.{enrolled}
 use Rattle.change.specs.Withdraw.{withdrawn}
 use Rattle.desk.specs.Refusals.{noSuchNumber, offGrid, isEnrolled, isFull, enrolGives, withdrawGives}

@@ -17,8 +17,9 @@ use Rattle.table.specs.declared.given.Given.{Given}
 use Rattle.table.specs.declared.given.Given.the-variants.{Done, WrongLength, NotWellFormed, OffGrid, NoSuchK, FewCandidates, FewAnswers}
 use Rattle.table.specs.Figures.{LENGTH}
 use Rattle.table.specs.Words.{Words, pointsOf}
-use Rattle.table.specs.Rules.{wellFormed}
-use Rattle.table.specs.Given.{Line, line, numberGiven, firstOf, wrongLength, malformed, checkGives}
+use Rattle.audit.specs.Rules.{wellFormed}
+use Rattle.table.specs.Given.{Line, line, numberGiven, firstOf}
+use Rattle.audit.specs.Check.{wrongLength, malformed, checkGives}
 use Rattle.filter.specs.Query.{Record, Counts, found, recordsFound, answersFound, laidOver}
 use Rattle.table.specs.declared.node.Entry.{Entry}
 use Rattle.filter.specs.declared.query.Reply.{Reply}

@@ -15,8 +15,7 @@ use Rattle.order.proofs.Order.{sort-perm, sort-length}
 use Rattle.table.specs.declared.given.Given.the-variants.{Done}
 use Rattle.table.specs.Figures.{MOST, HIGHEST}
 use Rattle.table.specs.Words.{Words, pointsOf}
-use Rattle.table.specs.Stations.{Station, stations}
-use Rattle.table.specs.Rules.{isPoint}
+use Rattle.table.specs.Stations.{Station, stations, isPoint}
 use Rattle.table.specs.Given.{firstOf}
 use Rattle.table.specs.Empty.{emptyTable}
 use Rattle.audit.proofs.Joined.{all-map, all-then}

@@ -26,9 +26,10 @@ use Rattle.table.specs.declared.given.Given.the-variants.{
   FewAnswers,
 }
 use Rattle.table.specs.Figures.{MOST, LENGTH, HIGHEST}
-use Rattle.table.specs.Words.{Words, pointsOf}
-use Rattle.table.specs.Rules.{between, wellFormed}
-use Rattle.table.specs.Given.{Line, line, firstOf, wrongLength, malformed, checkGives}
+use Rattle.table.specs.Words.{Words, pointsOf, between}
+use Rattle.audit.specs.Rules.{wellFormed}
+use Rattle.table.specs.Given.{Line, line, firstOf}
+use Rattle.audit.specs.Check.{wrongLength, malformed, checkGives}
 use Rattle.filter.specs.Query.{answersFound}
 use Rattle.audit.proofs.Tests.{and-left, and-right, between-true}
 use Rattle.desk.specs.Refusals.{noSuchNumber, offGrid, noSuchK, isEnrolled, isFull, enrolGives, withdrawGives, queryGives}

@@ -21,8 +21,7 @@ use Rattle.table.specs.declared.node.Entry.{Entry}
 use Rattle.table.specs.declared.given.Given.the-variants.{Done}
 use Rattle.table.specs.Figures.{HIGHEST}
 use Rattle.table.specs.Words.{Words}
-use Rattle.table.specs.Stations.{Station, stationOfEntry, stations}
-use Rattle.table.specs.Rules.{spanIsSpot, isPoint}
+use Rattle.table.specs.Stations.{Station, stationOfEntry, stations, spanIsSpot, isPoint}
 use Rattle.table.specs.Empty.{emptyTable}
 use Rattle.table.specs.Tree.{bough, leavesOf}
 use Rattle.audit.proofs.Tests.{both-true, true-between}

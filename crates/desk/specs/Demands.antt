@@ -16,7 +16,7 @@ use Rattle.table.specs.Figures.{MOST, SLOTS, LENGTH}
 use Rattle.table.specs.Words.{Words}
 use Rattle.table.specs.Slots.{slots, isFree, levelAt}
 use Rattle.table.specs.Stations.{Station, stations}
-use Rattle.table.specs.Rules.{wellFormed}
+use Rattle.audit.specs.Rules.{wellFormed}
 use Rattle.filter.specs.Meaning.{answer}
 use Rattle.filter.specs.Query.{Record, recordsFound, answersFound, countsOf, laidOver}
 use Rattle.desk.specs.Refusals.{enrolGives, withdrawGives, queryGives}

@@ -9,10 +9,10 @@ use Rattle.grid.specs.Word.{natOf, onGrid}
 use Rattle.grid.specs.Site.{Site}
 use Rattle.order.specs.Lists.{has}
 use Rattle.table.specs.Figures.{MOST, HIGHEST}
-use Rattle.table.specs.Words.{Words, pointsOf}
+use Rattle.table.specs.Words.{Words, pointsOf, between}
 use Rattle.table.specs.Stations.{Station, stations}
-use Rattle.table.specs.Rules.{between}
-use Rattle.table.specs.Given.{line, firstOf, wrongLength, malformed}
+use Rattle.table.specs.Given.{line, firstOf}
+use Rattle.audit.specs.Check.{wrongLength, malformed}
 use Rattle.filter.specs.Query.{answersFound}
 use Rattle.table.specs.declared.given.Given.{Given}
 use Rattle.table.specs.declared.given.Given.the-variants.{

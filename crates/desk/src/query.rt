@@ -5,7 +5,7 @@ ghost use Prim.Native.Nat.{min};
 ghost use lib.ListN.{length};
 ghost use Rattle.grid.specs.Word.{natOf};
 ghost use Rattle.table.specs.Figures.{LENGTH};
-ghost use Rattle.table.specs.Rules.{wellFormed};
+ghost use Rattle.audit.specs.Rules.{wellFormed};
 ghost use Rattle.filter.specs.Query.{answersFound};
 ghost use Rattle.filter.specs.Rows.{rows};
 ghost use Rattle.desk.specs.Refusals.{site, queryGives};

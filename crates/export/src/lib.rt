@@ -1,7 +1,8 @@
 // The calls for C and Rust programs, as a static library: numbers and slices only, answers by document 01's numbers.
 // It promises what desk promises. It stands on desk.
 ghost use mathlib.Core.Path.{_≡_};
-ghost use Rattle.table.specs.Given.{numberGiven, checkGives};
+ghost use Rattle.table.specs.Given.{numberGiven};
+ghost use Rattle.audit.specs.Check.{checkGives};
 ghost use Rattle.desk.specs.Refusals.{site, enrolGives, withdrawGives};
 ghost use Rattle.desk.specs.Calls.{afterEnrol, afterWithdraw};
 use table::given::number_given;

@@ -22,9 +22,9 @@ use Rattle.table.specs.declared.node.Entry.{Entry}
 use Rattle.table.specs.Words.{Words, word, isMinusOne, pointsOf, partAt}
 use Rattle.table.specs.Page.{pageOf}
 use Rattle.table.specs.Slots.{slots, isFree, pageAt}
-use Rattle.table.specs.Stations.{Station, stationsAt, stations}
+use Rattle.table.specs.Stations.{Station, stationsAt, stations, isPoint}
 use Rattle.table.specs.Figures.{LENGTH}
-use Rattle.table.specs.Rules.{isPoint, isEmpty, wellFormed}
+use Rattle.audit.specs.Rules.{isEmpty, wellFormed}
 use Rattle.table.specs.Tree.{Tree, topOf, slotsOf, leavesOf, Sound, Holds}
 use Rattle.filter.specs.Meaning.{nearerOther, answersTo, rising, answer}
 use Rattle.filter.specs.Walk.{Found, spotIn, walk}

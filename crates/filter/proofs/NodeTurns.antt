@@ -17,7 +17,7 @@ use Rattle.table.specs.Figures.{SLOTS}
 use Rattle.table.specs.Page.{blankEntry, held, Shows}
 use Rattle.table.specs.Slots.{pageAt, entriesAt}
 use Rattle.table.proofs.Slots.{page-few}
-use Rattle.table.specs.Rules.{isPoint}
+use Rattle.table.specs.Stations.{isPoint}
 use Rattle.audit.proofs.Joined.{all-then}
 use Rattle.filter.specs.declared.seen.Seen.{Seen}
 use Rattle.filter.specs.Walk.{Found, each, nearestFirst, withOpened, visited, entered, walk}

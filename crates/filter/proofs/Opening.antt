@@ -16,7 +16,7 @@ use Rattle.table.specs.declared.node.Entry.{Entry}
 use Rattle.table.specs.Figures.{LENGTH, LEAST}
 use Rattle.table.specs.Words.{Words, rootOf, pointsOf, isMinusOne, word}
 use Rattle.table.specs.Slots.{levelAt}
-use Rattle.table.specs.Rules.{isEmpty, wellFormed}
+use Rattle.audit.specs.Rules.{isEmpty, wellFormed}
 use Rattle.table.specs.Tree.{Tree, topOf, entryOfTree, leastOf, Stored}
 use Rattle.audit.proofs.Tests.{and-left, and-right, by-test}
 use Rattle.audit.proofs.Joined.{all-map}

@@ -19,8 +19,8 @@ use Rattle.table.specs.declared.node.Entry.{Entry}
 use Rattle.table.specs.Figures.{LENGTH}
 use Rattle.table.specs.Words.{Words, pointsOf}
 use Rattle.table.specs.Page.{blankEntry}
-use Rattle.table.specs.Stations.{Station, stations}
-use Rattle.table.specs.Rules.{isPoint, isEmpty, wellFormed}
+use Rattle.table.specs.Stations.{Station, stations, isPoint}
+use Rattle.audit.specs.Rules.{isEmpty, wellFormed}
 use Rattle.audit.proofs.Tests.{by-test}
 use Rattle.audit.proofs.Joined.{all-then}
 use Rattle.audit.proofs.Reading.{Point, point, held-points}

@@ -21,7 +21,7 @@ use Rattle.order.proofs.Lists.{map-at, all-at}
 use Rattle.order.proofs.Order.{pick-all, up-all}
 use Rattle.table.specs.declared.node.Entry.{Entry}
 use Rattle.table.specs.Page.{blankEntry}
-use Rattle.table.specs.Rules.{isPoint}
+use Rattle.table.specs.Stations.{isPoint}
 use Rattle.table.proofs.Nodes.{entry-ext}
 use Rattle.audit.proofs.Joined.{all-then}
 use Rattle.audit.proofs.Reading.{Point, point, point-spot}

@@ -22,8 +22,8 @@ use Rattle.table.specs.declared.node.Entry.{Entry}
 use Rattle.table.specs.Figures.{FAN, SLOTS, WIDTH, LENGTH}
 use Rattle.table.specs.Words.{Words, word, partAt, startOf}
 use Rattle.table.specs.Slots.{slots, levelAt, entriesAt}
-use Rattle.table.specs.Stations.{stationOfEntry, stations}
-use Rattle.table.specs.Rules.{isPoint, leafEntries, wellFormed}
+use Rattle.table.specs.Stations.{stationOfEntry, stations, isPoint}
+use Rattle.audit.specs.Rules.{leafEntries, wellFormed}
 use Rattle.table.proofs.Slots.{page-few}
 use Rattle.audit.proofs.Joined.{all-join, all-then}
 use Rattle.audit.proofs.Passed.{passed}

@@ -16,7 +16,7 @@ use Rattle.table.specs.declared.node.Entry.{Entry}
 use Rattle.table.specs.Words.{Words}
 use Rattle.table.specs.Page.{blankEntry}
 use Rattle.table.specs.Slots.{entriesAt}
-use Rattle.table.specs.Rules.{isPoint}
+use Rattle.table.specs.Stations.{isPoint}
 use Rattle.audit.proofs.Joined.{all-then}
 use Rattle.audit.proofs.Reading.{Point, point}
 use Rattle.filter.specs.declared.seen.Seen.{Seen}

@@ -17,7 +17,7 @@ use Rattle.order.specs.Order.{upFrom}
 use Rattle.order.proofs.Lists.{mem-all}
 use Rattle.order.proofs.Order.{up-length}
 use Rattle.table.specs.declared.node.Entry.{Entry}
-use Rattle.table.specs.Rules.{isPoint}
+use Rattle.table.specs.Stations.{isPoint}
 use Rattle.audit.proofs.Reading.{point}
 use Rattle.filter.specs.declared.seen.Seen.{Seen}
 use Rattle.filter.specs.Walk.{Found, spotIn, pointHidden, boxHidden, withCandidate, visited, entered}

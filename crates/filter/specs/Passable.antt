@@ -7,7 +7,7 @@ use Rattle.order.specs.Lists.{All}
 use Rattle.table.specs.Figures.{SLOTS}
 use Rattle.table.specs.Words.{Words}
 use Rattle.table.specs.Slots.{entriesAt}
-use Rattle.table.specs.Rules.{isPoint}
+use Rattle.table.specs.Stations.{isPoint}
 
 -- from the node in slot s, of level l, downwards
 abbrev pub Passable : ℕ → Words → ℕ → Type 0

@@ -12,7 +12,7 @@ use Rattle.order.specs.Lists.{All}
 use Rattle.order.specs.Order.{upFrom}
 use Rattle.table.specs.declared.node.Entry.{Entry}
 use Rattle.table.specs.Words.{word}
-use Rattle.table.specs.Rules.{isPoint}
+use Rattle.table.specs.Stations.{isPoint}
 use Rattle.filter.specs.declared.seen.Seen.{Seen}
 use Rattle.filter.specs.Walk.{Found, spotIn}
 use Rattle.filter.specs.Query.{Record, laidOver}

@@ -15,7 +15,8 @@ use Rattle.table.specs.declared.node.Entry.{Entry}
 use Rattle.table.specs.Figures.{SLOTS, LENGTH}
 use Rattle.table.specs.Words.{Words, word}
 use Rattle.table.specs.Slots.{slots}
-use Rattle.table.specs.Rules.{isPoint, leafEntries}
+use Rattle.table.specs.Stations.{isPoint}
+use Rattle.audit.specs.Rules.{leafEntries}
 use Rattle.filter.specs.Walk.{spotIn}
 use Rattle.filter.specs.Rows.{Rows, placeIn, entryIn, Room}
 

@@ -6,7 +6,7 @@ ghost use lib.IntN.{pos};
 ghost use lib.ListN.{length, set};
 ghost use Rattle.grid.specs.Word.{wordOf};
 ghost use Rattle.grid.specs.Place.{PlaceOnGrid, dist²};
-ghost use Rattle.table.specs.Rules.{isPoint};
+ghost use Rattle.table.specs.Stations.{isPoint};
 ghost use Rattle.filter.specs.Walk.{spotIn, visited};
 ghost use Rattle.filter.specs.Rows.{rows, lengthIn, Ready, Went};
 use crate::discard::enough;

@@ -6,7 +6,7 @@ ghost use Rattle.grid.specs.Word.{IsWord, onGrid};
 ghost use Rattle.order.specs.Lists.{All};
 ghost use Rattle.table.specs.Figures.{LENGTH};
 ghost use Rattle.table.specs.Words.{pointsOf};
-ghost use Rattle.table.specs.Rules.{wellFormed};
+ghost use Rattle.audit.specs.Rules.{wellFormed};
 ghost use Rattle.filter.specs.Rows.{rows, Room};
 ghost use Rattle.filter.specs.Reply.{Replied};
 use crate::answering::count_passing;

@@ -6,7 +6,7 @@ ghost use lib.ListN.{length};
 ghost use Rattle.order.specs.Lists.{All};
 ghost use Rattle.table.specs.Figures.{LENGTH};
 ghost use Rattle.table.specs.Page.{held};
-ghost use Rattle.table.specs.Rules.{isPoint};
+ghost use Rattle.table.specs.Stations.{isPoint};
 ghost use Rattle.filter.specs.Walk.{each, nearestFirst, visited, walk as walkOf};
 ghost use Rattle.filter.specs.Rows.{rows, Ready, Went};
 ghost use Rattle.filter.specs.Passable.{Passable};

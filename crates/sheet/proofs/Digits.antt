@@ -15,7 +15,7 @@ use mir.Syntax.{w32}
 use mir.Val.{SFits, toZ, ofZ}
 use mir.ValLaws.{toZ-ofZ, toZ-pos}
 use Rattle.order.specs.Lists.{every}
-use Rattle.table.specs.Rules.{between}
+use Rattle.table.specs.Words.{between}
 use Rattle.sheet.specs.declared.number.Read.the-variants.{NoNumber}
 use Rattle.sheet.specs.Bytes.{Bytes}
 use Rattle.sheet.specs.Number.{MINUS, ZERO, isDigit, startsWithZero, isPlain, valueFrom, valueOf, plainNumber, negativeNumber, readNumber}

@@ -6,7 +6,7 @@ use lib.Dec.{eqb}
 use lib.IntN.{pos, negℤ}
 use lib.ListN.{length}
 use Rattle.order.specs.Lists.{every}
-use Rattle.table.specs.Rules.{between}
+use Rattle.table.specs.Words.{between}
 use Rattle.sheet.specs.declared.number.Read.{Read}
 use Rattle.sheet.specs.declared.number.Read.the-variants.{Number, NoNumber}
 use Rattle.sheet.specs.Bytes.{Bytes}

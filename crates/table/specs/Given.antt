@@ -1,9 +1,7 @@
 -- 01, "Numbers given back": each answer's number, and how a call picks its answer.
 use Prim.Native.Nat.{ℕ}
-use mathlib.Core.Bool.{Bool, cond, not}
+use mathlib.Core.Bool.{Bool, cond}
 use mathlib.Core.List.{List, [], _∷_}
-use lib.Dec.{eqb}
-use lib.ListN.{length}
 use Rattle.table.specs.declared.given.Given.{Given}
 use Rattle.table.specs.declared.given.Given.the-variants.{
   Done,
@@ -20,9 +18,6 @@ use Rattle.table.specs.declared.given.Given.the-variants.{
   Misshapen,
   SheetTooLong,
 }
-use Rattle.table.specs.Figures.{LENGTH}
-use Rattle.table.specs.Words.{Words}
-use Rattle.table.specs.Rules.{wellFormed}
 
 abbrev pub numberGiven : Given → ℕ
 numberGiven Done = 0
@@ -51,15 +46,3 @@ line b g = record { holds = b; gives = g }
 abbrev pub firstOf : List Line → Given
 firstOf [] = Done
 firstOf (l ∷ ls) = cond (l .holds) (l .gives) (firstOf ls)
-
--- 1: table not 10,754 words
-abbrev pub wrongLength : Words → Bool
-wrongLength ws = not (eqb (length ws) LENGTH)
-
--- 2: table not well formed
-abbrev pub malformed : Words → Bool
-malformed ws = not (wellFormed ws)
-
--- table check 1, 2
-unfoldable pub checkGives : Words → Given
-checkGives ws = firstOf (line (wrongLength ws) WrongLength ∷ line (malformed ws) NotWellFormed ∷ [])

@@ -2,7 +2,6 @@ pub mod Figures
 pub mod Words
 pub mod Page
 pub mod Slots
-pub mod Rules
 pub mod Stations
 pub mod Empty
 pub mod Tree

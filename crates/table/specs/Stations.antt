@@ -1,16 +1,18 @@
 -- The enrolled stations, as a flat list read off the leaf slots, in the order of the slots.
 use Prim.Native.Nat.{ℕ, _+_, _*_}
-use mathlib.Core.Bool.{Bool, cond}
+use mathlib.Core.Bool.{Bool, cond, _&&_}
 use mathlib.Core.List.{List, [], map}
 use lib.Dec.{eqb}
 use lib.IntN.{ℤ}
 use Rattle.grid.specs.Word.{natOf, wordOf}
+use Rattle.grid.specs.Axis.{stepOnGrid}
 use Rattle.grid.specs.Site.{Site}
+use Rattle.grid.specs.declared.span.Span.{Span}
 use Rattle.order.specs.Order.{upFrom}
 use Rattle.order.specs.Lists.{join}
 use Rattle.table.specs.declared.node.Entry.{Entry}
-use Rattle.table.specs.Figures.{ENTRY}
-use Rattle.table.specs.Words.{Words, word, partAt}
+use Rattle.table.specs.Figures.{ENTRY, HIGHEST}
+use Rattle.table.specs.Words.{Words, between, word, partAt}
 use Rattle.table.specs.Page.{filled}
 use Rattle.table.specs.Slots.{slots, levelAt}
 
@@ -26,6 +28,14 @@ stationOf part i = record { number = natOf (word part (2 + ENTRY * i)); site = r
 -- the same, of the entry that was read
 abbrev pub stationOfEntry : Entry → Station
 stationOfEntry e = record { number = e .reference; site = record { x = wordOf (e .rect .x .low); y = wordOf (e .rect .y .low) } }
+
+-- low equals high, on the grid
+abbrev pub spanIsSpot : Span → Bool
+spanIsSpot s = eqb (s .low) (s .high) && stepOnGrid (s .low)
+
+-- what rule 4 says of an entry in a leaf: a point number from 1 to 9,999, and a place on the grid
+abbrev pub isPoint : Entry → Bool
+isPoint e = between 1 HIGHEST (e .reference) && (spanIsSpot (e .rect .x) && spanIsSpot (e .rect .y))
 
 -- a slot of level 0 is a leaf
 abbrev pub isLeaf : Words → ℕ → Bool

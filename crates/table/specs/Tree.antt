@@ -10,7 +10,7 @@ use Rattle.table.specs.declared.node.Entry.{Entry}
 use Rattle.table.specs.Figures.{FAN, LEAST, MOST, SLOTS, LENGTH}
 use Rattle.table.specs.Words.{Words, word, partAt}
 use Rattle.table.specs.Page.{page, pageWords, freeWords, coverOf}
-use Rattle.table.specs.Rules.{isPoint}
+use Rattle.table.specs.Stations.{isPoint}
 
 -- a slot, and what hangs on it
 pub record Bough (A : Type 0) : Type 0 where

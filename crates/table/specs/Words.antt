@@ -1,12 +1,16 @@
 -- 01, "The table": words, the parts that hold one slot each, and a run of words put in the place of as many others.
 use Prim.Native.Nat.{ℕ, _+_, _*_}
-use mathlib.Core.Bool.{Bool, false}
+use mathlib.Core.Bool.{Bool, false, _&&_}
 use mathlib.Core.List.{List, _++_}
-use lib.Dec.{eqb}
+use lib.Dec.{eqb, leb}
 use lib.IntN.{ℤ, pos, negsuc}
 use lib.ListN.{length, getD, take, drop, set}
 use Rattle.grid.specs.Word.{natOf}
 use Rattle.table.specs.Figures.{WIDTH}
+
+-- a number lies from a to b
+abbrev pub between : ℕ → ℕ → ℕ → Bool
+between a b n = leb a n && leb n b
 
 -- a lent table: signed 32-bit words
 abbrev pub Words : Type 0

@@ -1,6 +1,6 @@
 // The figures that belong to the table, as constants of its type.
 ghost use mathlib.Core.Path.{_≡_};
-ghost use Rattle.table.specs.Figures.{FAN, LENGTH};
+ghost use Rattle.table.specs.Figures.{FAN, LEAST, MOST, SLOTS, ENTRY, WIDTH, LENGTH, HIGHEST};
 
 // A table is lent as a slice of words; this type holds no data, only the figures.
 pub struct Table {}
@@ -30,9 +30,42 @@ impl Table {
     pub const HIGHEST: usize = 9999;
 }
 
-// A lent table has exactly so many words.
-pub fn length() -> usize
-    ensures { λ r. ⌜ r ≡ LENGTH ⌝ }
+// The figures as one value.
+pub struct Figures {
+    pub fan: usize,
+    pub least: usize,
+    pub most: usize,
+    pub slots: usize,
+    pub entry: usize,
+    pub width: usize,
+    pub length: usize,
+    pub highest: usize,
+}
+
+// The code's figures are the definitions' figures: a promise that fails if one of either is another.
+pub fn stated() -> Figures
+    ensures { λ r.
+        ⌜
+        r ≡ record {
+          fan = FAN;
+          least = LEAST;
+          most = MOST;
+          slots = SLOTS;
+          entry = ENTRY;
+          width = WIDTH;
+          length = LENGTH;
+          highest = HIGHEST
+        }
+        ⌝ }
 {
-    Table::LENGTH
+    Figures {
+        fan: Table::FAN,
+        least: Table::LEAST,
+        most: Table::MOST,
+        slots: Table::SLOTS,
+        entry: Table::ENTRY,
+        width: Table::WIDTH,
+        length: Table::LENGTH,
+        highest: Table::HIGHEST,
+    }
 }

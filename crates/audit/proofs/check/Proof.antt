@@ -12,8 +12,8 @@ use Rattle.table.specs.declared.given.Given.the-variants.{Done, NotWellFormed}
 use Rattle.table.specs.Figures.{LENGTH}
 use Rattle.table.specs.Words.{Words}
 use Rattle.table.specs.Slots.{slots}
-use Rattle.table.specs.Rules.{rule1, rule2, rule3, rule4, rule5, rule6, rule7, rule7Header, wellFormed}
-use Rattle.table.specs.Given.{checkGives}
+use Rattle.audit.specs.Rules.{rule1, rule2, rule3, rule4, rule5, rule6, rule7, rule7Header, wellFormed}
+use Rattle.audit.specs.Check.{checkGives}
 use Rattle.audit.proofs.Tests.{all-every}
 use Rattle.audit.proofs.Every.{element-fails, failed, passed}
 use borrow.Author.Needs.{needs}

@@ -3,7 +3,7 @@ use Prim.Native.Nat.{_-_}
 use native.Mathlib.Omega.{arith}
 use mathlib.Core.Path.{sym}
 use Rattle.table.specs.Figures.{SLOTS}
-use Rattle.table.specs.Rules.{rule5, rule6}
+use Rattle.audit.specs.Rules.{rule5, rule6}
 use Rattle.audit.proofs.Counted.{every-below}
 use Rattle.audit.proofs.Every.{Tested, none-tested, one-tested, failed, passed, one-fails, all-pass}
 use Rattle.audit.proofs.children.rule6_holds.Statement.{statement}

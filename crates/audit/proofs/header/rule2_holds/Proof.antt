@@ -3,9 +3,9 @@ use mathlib.Core.Path.{_≡_, ap, sym, _∙_}
 use mathlib.Core.Bool.{true, false}
 use borrow.Author.Tests.{lt-ltb, le-ltb, le-leb, lt-leb}
 use Rattle.table.specs.Figures.{SLOTS, MOST}
-use Rattle.table.specs.Words.{rootOf}
+use Rattle.table.specs.Words.{rootOf, between}
 use Rattle.table.specs.Slots.{isFree}
-use Rattle.table.specs.Rules.{between, isEmpty, rule2}
+use Rattle.audit.specs.Rules.{isEmpty, rule2}
 use native.Mathlib.Omega.{arith}
 use borrow.Author.Needs.{needs}
 use Rattle.audit.proofs.header.rule2_holds.Statement.{statement}

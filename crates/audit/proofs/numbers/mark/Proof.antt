@@ -7,7 +7,7 @@ use mathlib.Core.List.{List}
 use lib.ListN.{getD, take, drop}
 use Rattle.table.specs.Figures.{HIGHEST}
 use Rattle.table.specs.Page.{held, blankEntry}
-use Rattle.table.specs.Rules.{isPoint}
+use Rattle.table.specs.Stations.{isPoint}
 use Rattle.table.proofs.Nodes.{full}
 use Rattle.audit.specs.Seen.{refsOf, Marks, Entered}
 use Rattle.audit.proofs.Tests.{every-all}

@@ -3,7 +3,7 @@ use Prim.Native.Nat.{_-_}
 use native.Mathlib.Omega.{arith}
 use mathlib.Core.Path.{sym}
 use Rattle.table.specs.Figures.{SLOTS}
-use Rattle.table.specs.Rules.{rule7}
+use Rattle.audit.specs.Rules.{rule7}
 use Rattle.audit.proofs.Every.{Tested, none-tested, one-tested, failed, passed, one-fails, all-pass}
 use Rattle.audit.proofs.references.referred_once.Statement.{statement}
 use Rattle.audit.proofs.references.referred_once.Tie as tie

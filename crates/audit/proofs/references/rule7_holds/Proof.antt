@@ -11,7 +11,7 @@ use Rattle.table.specs.Figures.{SLOTS}
 use Rattle.table.specs.Words.{pointsOf}
 use Rattle.table.specs.Slots.{slots}
 use Rattle.table.specs.Stations.{stations}
-use Rattle.table.specs.Rules.{refsAt, rule5, rule7, rule7Header}
+use Rattle.audit.specs.Rules.{refsAt, rule5, rule7, rule7Header}
 use Rattle.audit.specs.Seen.{Tally}
 use Rattle.audit.proofs.Counted.{every-below}
 use Rattle.audit.proofs.Tallied.{none-tallied}

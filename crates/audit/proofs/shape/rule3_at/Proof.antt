@@ -6,9 +6,9 @@ use native.Mathlib.Omega.{arith}
 use borrow.Author.Tests.{le-leb, lt-leb}
 use Rattle.grid.specs.Word.{natOf}
 use Rattle.table.specs.Figures.{FAN}
-use Rattle.table.specs.Words.{Words, word, startOf, partAt}
+use Rattle.table.specs.Words.{Words, word, startOf, partAt, between}
 use Rattle.table.specs.Slots.{isFree}
-use Rattle.table.specs.Rules.{between, rule3}
+use Rattle.audit.specs.Rules.{rule3}
 use Rattle.table.proofs.Slots.{word-at}
 use Rattle.audit.proofs.Words.{right-natural, left-negative}
 use borrow.Author.Needs.{needs}

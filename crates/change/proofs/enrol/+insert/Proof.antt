@@ -77,13 +77,13 @@ insert-node-at-requires : (t : ℕ) → insert-lts.Need-node-at-requires (calls 
 insert-node-at-requires t c κs = let s = c .before in (s .pre .1 .planted .long, planted-inside (s .pre .1 .planted))
 
 insert-appended-requires : (t : ℕ) → insert-lts.Need-appended-requires (calls t) (insert-at t) insert.Post
-insert-appended-requires t c κs = let s = c .before .before .before .before in
-    omega (arith, page-few (s .args .table .now) (s .args .slot), c .before .before .node-at .ensures .count)
+insert-appended-requires t c κs = let s = c .before .before .before in
+    omega (arith, page-few (s .args .table .now) (s .args .slot), c .before .node-at .ensures .count)
 
 insert-settle-requires : (t : ℕ) → insert-lts.Need-settle-requires (calls t) (insert-at t) insert.Post
 insert-settle-requires t c κs =
     let s = c .before .before .before .before .before in
-    leaf-may (in-leaf (c .before .before .if1 .taken) (s .pre .1)) (c .before .before .before .node-at .ensures) (c .appended .ensures)
+    leaf-may (in-leaf (c .before .before .if1 .taken) (s .pre .1)) (c .before .before .before .node-at .ensures) (c .before .appended .ensures)
 
 insert-same-length : (t : ℕ) → insert-lts.Need-same-length (calls t) (insert-at t) insert.Post
 insert-same-length t c = search needs
@@ -93,7 +93,7 @@ insert-returns t c =
     let d = c .before .before in
     let s = d .before .before .before .before .before in
     let e = d .before .before .if1 .taken in
-    leaf-done (in-leaf e (s .pre .1)) (d .before .before .before .node-at .ensures) (d .appended .ensures) (grew (c .before .settle .last .0) (c .before .settle .result))
+    leaf-done (in-leaf e (s .pre .1)) (d .before .before .before .node-at .ensures) (d .before .appended .ensures) (grew (c .before .settle .last .0) (c .before .settle .result))
     (c .before .settle .ensures)
     ∙ ap (λ l. inserted l (s .args .table .now) (s .args .slot) (s .args .e)) (sym e)
 

@@ -8,7 +8,7 @@ use lib.ListN.{getD}
 use Rattle.order.specs.Lists.{count as countOf}
 use Rattle.order.specs.Order.{upFrom}
 use Rattle.table.specs.Page.{blankEntry}
-use Rattle.table.specs.Rules.{isPoint}
+use Rattle.table.specs.Stations.{isPoint}
 use Rattle.table.proofs.Nodes.{full}
 use Rattle.filter.specs.Test.{otherNearer}
 use Rattle.filter.proofs.Rows.{tally}

@@ -5,7 +5,7 @@ use mathlib.Core.Path.{_≡_, refl, sym}
 use Rattle.order.specs.Lists.{count as countOf, join}
 use Rattle.order.specs.Order.{upFrom}
 use Rattle.table.specs.Figures.{FAN, SLOTS}
-use Rattle.table.specs.Rules.{leafEntries}
+use Rattle.audit.specs.Rules.{leafEntries}
 use Rattle.filter.specs.Test.{otherNearer}
 use Rattle.filter.proofs.Testing.{leaf-few, count-slot, passes-all, passes-not}
 use Rattle.filter.proofs.test.passes.Statement.{statement}

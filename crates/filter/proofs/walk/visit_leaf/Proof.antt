@@ -7,7 +7,7 @@ use lib.ListN.{length, take}
 use borrow.Author.Needs.{needs}
 use Rattle.grid.specs.Place.{RectOnGrid}
 use Rattle.table.specs.Page.{held}
-use Rattle.table.specs.Rules.{isPoint}
+use Rattle.table.specs.Stations.{isPoint}
 use Rattle.table.proofs.Nodes.{full}
 use Rattle.audit.proofs.Joined.{all-then}
 use Rattle.audit.proofs.Reading.{point, point-upright}

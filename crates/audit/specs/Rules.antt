@@ -7,21 +7,16 @@ use lib.Dec.{eqb, leb, ltb}
 use lib.IntN.{ℤ, pos, negsuc}
 use lib.ListN.{length, drop}
 use Rattle.grid.specs.Word.{natOf}
-use Rattle.grid.specs.Axis.{stepOnGrid}
 use Rattle.grid.specs.declared.rect.Rect.{Rect}
 use Rattle.grid.specs.declared.span.Span.{Span}
 use Rattle.order.specs.Order.{upFrom}
 use Rattle.order.specs.Lists.{count, every, has, join}
 use Rattle.table.specs.declared.node.Entry.{Entry}
-use Rattle.table.specs.Figures.{FAN, LEAST, MOST, SLOTS, ENTRY, LENGTH, HIGHEST}
-use Rattle.table.specs.Words.{Words, word, isZero, isMinusOne, rootOf, pointsOf, partAt}
+use Rattle.table.specs.Figures.{FAN, LEAST, MOST, SLOTS, ENTRY}
+use Rattle.table.specs.Words.{Words, between, word, isZero, isMinusOne, rootOf, pointsOf, partAt}
 use Rattle.table.specs.Page.{filled, coverOf}
 use Rattle.table.specs.Slots.{slots, isFree, levelAt, entriesAt}
-use Rattle.table.specs.Stations.{Station, isLeaf, stationsAt, stations}
-
--- a number lies from a to b
-abbrev pub between : ℕ → ℕ → ℕ → Bool
-between a b n = leb a n && leb n b
+use Rattle.table.specs.Stations.{isPoint, isLeaf, stations}
 
 abbrev pub isNatural : ℤ → Bool
 isNatural (pos n) = true
@@ -55,12 +50,6 @@ unfoldable pub rule3 : Words → ℕ → Bool
 rule3 ws s = isFree ws s || (isNatural (word (partAt ws s) 0) && between (leastFill ws s) FAN (natOf (word (partAt ws s) 1)))
 
 -- ---- rule 4, of a leaf: point numbers are 1 to 9,999, each at most once in the table; low equals high on both axes; places are on the grid
-
-abbrev pub spanIsSpot : Span → Bool
-spanIsSpot s = eqb (s .low) (s .high) && stepOnGrid (s .low)
-
-abbrev pub isPoint : Entry → Bool
-isPoint e = between 1 HIGHEST (e .reference) && (spanIsSpot (e .rect .x) && spanIsSpot (e .rect .y))
 
 abbrev pub leafEntries : Words → ℕ → List Entry
 leafEntries ws s = cond (isLeaf ws s) (entriesAt ws s) []

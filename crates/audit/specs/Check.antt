@@ -1,0 +1,23 @@
+-- 01, "Numbers given back", lines 1 and 2: what the table check gives.
+use mathlib.Core.Bool.{Bool, not}
+use mathlib.Core.List.{[], _∷_}
+use lib.Dec.{eqb}
+use lib.ListN.{length}
+use Rattle.table.specs.declared.given.Given.{Given}
+use Rattle.table.specs.declared.given.Given.the-variants.{WrongLength, NotWellFormed}
+use Rattle.table.specs.Given.{line, firstOf}
+use Rattle.table.specs.Figures.{LENGTH}
+use Rattle.table.specs.Words.{Words}
+use Rattle.audit.specs.Rules.{wellFormed}
+
+-- 1: table not 10,754 words
+abbrev pub wrongLength : Words → Bool
+wrongLength ws = not (eqb (length ws) LENGTH)
+
+-- 2: table not well formed
+abbrev pub malformed : Words → Bool
+malformed ws = not (wellFormed ws)
+
+-- table check 1, 2
+unfoldable pub checkGives : Words → Given
+checkGives ws = firstOf (line (wrongLength ws) WrongLength ∷ line (malformed ws) NotWellFormed ∷ [])
