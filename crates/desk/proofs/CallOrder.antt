@@ -20,8 +20,8 @@ use Rattle.table.specs.Words.{Words}
 use Rattle.audit.specs.Rules.{wellFormed}
 use Rattle.table.specs.Given.{numberGiven}
 use Rattle.audit.specs.Check.{wrongLength, malformed, checkGives}
-use Rattle.change.specs.Enrol.{enrolled}
-use Rattle.change.specs.Withdraw.{withdrawn}
+use Rattle.joining.specs.Enrol.{enrolled}
+use Rattle.leaving.specs.Withdraw.{withdrawn}
 use Rattle.desk.specs.Refusals.{noSuchNumber, offGrid, isEnrolled, isFull, enrolGives, withdrawGives}
 use Rattle.desk.specs.Calls.{pointEntry, afterEnrol, afterWithdraw}
 use Rattle.desk.proofs.Given.{if-refused}

@@ -14,8 +14,8 @@ use Rattle.order.proofs.Perm.{prefl}
 use Rattle.table.specs.declared.given.Given.the-variants.{FewAnswers}
 use Rattle.table.specs.Words.{Words}
 use Rattle.table.specs.Stations.{Station, stations}
-use Rattle.change.specs.Enrol.{enrolled}
-use Rattle.change.specs.Withdraw.{withdrawn}
+use Rattle.joining.specs.Enrol.{enrolled}
+use Rattle.leaving.specs.Withdraw.{withdrawn}
 use Rattle.filter.specs.Query.{Record, countsOf, recordsFound, answersFound, laidOver}
 use Rattle.filter.proofs.Rising.{perm-filter}
 use Rattle.desk.specs.Refusals.{enrolGives, withdrawGives, queryGives}

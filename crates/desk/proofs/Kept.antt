@@ -28,11 +28,11 @@ use Rattle.audit.proofs.Tests.{both-true, true-between}
 use Rattle.audit.proofs.Reading.{held-points}
 use Rattle.audit.proofs.Held.{held-stations}
 use Rattle.audit.proofs.WellFormed.{Held, empty-stations}
-use Rattle.change.specs.Enrol.{enrolled}
-use Rattle.change.specs.Withdraw.{withdrawn}
+use Rattle.joining.specs.Enrol.{enrolled}
+use Rattle.leaving.specs.Withdraw.{withdrawn}
 use Rattle.audit.proofs.EmptyTable.{empty-blank}
-use Rattle.change.proofs.Enrolled.{enrolled-holds, first-sound, first-holds}
-use Rattle.change.proofs.Withdrawn.{mem-some, withdrawn-last, withdrawn-tree}
+use Rattle.joining.proofs.Enrolled.{enrolled-holds, first-sound, first-holds}
+use Rattle.leaving.proofs.Withdrawn.{mem-some, withdrawn-last, withdrawn-tree}
 use Rattle.filter.proofs.Rising.{perm-filter}
 use Rattle.filter.proofs.Meaning.{filter-all}
 use Rattle.desk.specs.Refusals.{isEnrolled, enrolGives, withdrawGives}

@@ -8,8 +8,8 @@ use Rattle.grid.specs.Site.{Site, placeOf}
 use Rattle.grid.specs.Place.{spotOf}
 use Rattle.table.specs.declared.node.Entry.{Entry}
 use Rattle.table.specs.Words.{Words}
-use Rattle.change.specs.Enrol.{enrolled}
-use Rattle.change.specs.Withdraw.{withdrawn}
+use Rattle.joining.specs.Enrol.{enrolled}
+use Rattle.leaving.specs.Withdraw.{withdrawn}
 use Rattle.filter.specs.Query.{Record, Counts, recordsFound, answersFound, countsOf, laidOver}
 use Rattle.table.specs.declared.given.Given.{Given}
 use Rattle.table.specs.declared.given.Given.the-variants.{

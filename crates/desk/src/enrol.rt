@@ -9,7 +9,7 @@ ghost use Rattle.desk.specs.Calls.{pointEntry, afterEnrol};
 use crate::refuse;
 use crate::words::are_words;
 use audit::check;
-use change::enrol::enrol_in;
+use joining::enrol::enrol_in;
 use grid::border;
 use grid::place::Place;
 use table::given::Given;

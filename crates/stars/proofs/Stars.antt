@@ -21,7 +21,7 @@ use Rattle.audit.specs.Rules.{isEmpty}
 use Rattle.table.specs.Empty.{emptyTable, freeSlots}
 use Rattle.change.specs.Choose.{takesBefore, chosen}
 use Rattle.change.specs.Share.{lined, firstShare, otherShare}
-use Rattle.change.specs.Enrol.{settled, enrolled}
+use Rattle.joining.specs.Enrol.{settled, enrolled}
 use Rattle.filter.specs.Meaning.{nearerOther, answersTo, rising, answer}
 use Rattle.filter.specs.Walk.{Found, nearestFirst, pointHidden, boxHidden}
 use Rattle.filter.specs.Query.{stationIn, found, answersFound}

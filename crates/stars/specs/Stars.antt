@@ -13,7 +13,7 @@ use Rattle.grid.specs.Nearer.{cornersNearer}
 use Rattle.table.specs.Words.{Words, rootOf}
 use Rattle.table.specs.Slots.{entriesAt, entryFor}
 use Rattle.table.specs.Stations.{Station}
-use Rattle.change.specs.Enrol.{enrolled}
+use Rattle.joining.specs.Enrol.{enrolled}
 use Rattle.filter.specs.Meaning.{answer}
 use Rattle.filter.specs.Walk.{boxHidden}
 use Rattle.filter.specs.Query.{found, answersFound}

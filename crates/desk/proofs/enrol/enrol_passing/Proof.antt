@@ -1,7 +1,7 @@
 -- `enrol::enrol_passing` meets its contract: a refusal leaves the table, and a granted enrolment puts the point's entry in. Assumes nothing.
 use mathlib.Core.Path.{sym, ap, _∙_}
 use Rattle.table.specs.Stations.{isPoint}
-use Rattle.change.specs.Enrol.{enrolled}
+use Rattle.joining.specs.Enrol.{enrolled}
 use Rattle.desk.specs.Refusals.{site, enrolGives}
 use Rattle.desk.specs.Calls.{pointEntry}
 use Rattle.desk.proofs.Granted.{enrol-granted}

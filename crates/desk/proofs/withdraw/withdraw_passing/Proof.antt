@@ -2,7 +2,7 @@
 use mathlib.Core.Path.{sym, ap, _∙_}
 use Rattle.grid.proofs.Machine.{natural-passed}
 use Rattle.order.specs.Lists.{has}
-use Rattle.change.specs.Withdraw.{withdrawn}
+use Rattle.leaving.specs.Withdraw.{withdrawn}
 use Rattle.desk.specs.Refusals.{numbersOf, withdrawGives}
 use Rattle.desk.proofs.Granted.{withdraw-granted}
 use Rattle.desk.proofs.CallTests.{one-passed}

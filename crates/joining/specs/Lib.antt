@@ -1,0 +1,2 @@
+pub mod Enrol
+pub mod Within
