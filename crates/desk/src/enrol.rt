@@ -9,9 +9,9 @@ ghost use Rattle.desk.specs.Calls.{pointEntry, afterEnrol};
 use crate::refuse;
 use crate::words::are_words;
 use audit::check;
-use joining::enrol::enrol_in;
 use grid::border;
 use grid::place::Place;
+use joining::enrol::enrol_in;
 use table::given::Given;
 use table::node::Entry;
 

@@ -9,8 +9,8 @@ ghost use Rattle.desk.specs.Calls.{afterWithdraw};
 use crate::refuse;
 use crate::words::are_words;
 use audit::check;
-use leaving::withdraw::withdraw_in;
 use grid::border;
+use leaving::withdraw::withdraw_in;
 use table::given::Given;
 
 // What a withdrawal gives on a table that passes the check: 3, 8.

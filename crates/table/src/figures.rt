@@ -54,7 +54,7 @@ pub fn stated() -> Figures
           entry = ENTRY;
           width = WIDTH;
           length = LENGTH;
-          highest = HIGHEST
+          highest = HIGHEST;
         }
         ⌝ }
 {
