@@ -16,6 +16,7 @@ use Rattle.table.specs.Page.{entryOf, filled, pageOf}
 use Rattle.table.specs.Slots.{slots, pageAt, entriesAt}
 use Rattle.table.specs.Stations.{stationOf, stationOfEntry, isLeaf, stationsAt, stations}
 use Rattle.audit.specs.Rules.{leafEntries}
+use Rattle.table.proofs.Slots.{entries-count}
 use Rattle.audit.proofs.Joined.{join-same, map-join}
 use Rattle.audit.proofs.Counted.{up-mem}
 
@@ -30,11 +31,6 @@ cond-length true xs ys e = e
 cond-length false xs ys e = refl
 
 -- ---- how many
-
--- word 1 of a slot says how many entries it has, eight at most
-pub entries-count : (ws : Words) (s : ℕ) → length (entriesAt ws s) ≡ filled (partAt ws s)
-unfolding pageAt pageOf
-entries-count ws s = length-map (upFrom 0 (filled (partAt ws s))) (entryOf (partAt ws s)) ∙ up-length 0 (filled (partAt ws s))
 
 stations-at-length : (ws : Words) (s : ℕ) → length (stationsAt ws s) ≡ length (leafEntries ws s)
 stations-at-length ws s =

@@ -1,5 +1,5 @@
 -- Whether a number is enrolled, slot by slot: the points of a slot have the numbers of its leaf entries. By the laws of tests of a list. Assumes nothing.
-use Prim.Native.Nat.{ℕ, zero, suc, _+_, _*_, _<_}
+use Prim.Native.Nat.{ℕ, _+_, _*_, _<_}
 use native.Mathlib.Omega.{arith}
 use mathlib.Core.Path.{_≡_, refl, ap, _∙_}
 use mathlib.Core.Bool.{Bool, true, false, cond}
@@ -9,7 +9,7 @@ use lib.ListN.{getD}
 use Rattle.grid.specs.Word.{natOf}
 use Rattle.order.specs.Lists.{some, has, join}
 use Rattle.order.specs.Order.{upFrom}
-use Rattle.order.proofs.Order.{up-length}
+use Rattle.order.proofs.Order.{up-length, up-at}
 use Rattle.table.specs.Figures.{SLOTS, ENTRY}
 use Rattle.table.specs.Words.{Words, word, partAt}
 use Rattle.table.specs.Page.{entryOf, filled, pageOf}
@@ -19,11 +19,6 @@ use Rattle.audit.specs.Rules.{numbersAt}
 use Rattle.audit.proofs.Joined.{map-join}
 use Rattle.desk.specs.Refusals.{numbersOf}
 use Rattle.desk.proofs.CallTests.{some-at, none-at, some-join}
-
-pub up-at : (a n i : ℕ) → i < n → getD (upFrom a n) i 0 ≡ a + i
-up-at a zero i h = absurd (omega arith)
-up-at a (suc n) zero h = omega arith
-up-at a (suc n) (suc i) h = up-at (suc a) n i (omega arith) ∙ (omega arith)
 
 slot-at : (s : ℕ) → s < SLOTS → getD slots s 0 ≡ s
 slot-at s h = up-at 0 SLOTS s h ∙ (omega arith)

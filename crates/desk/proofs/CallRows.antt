@@ -12,7 +12,7 @@ use Rattle.grid.specs.Site.{Site, placeOf}
 use Rattle.grid.specs.Place.{dist²}
 use Rattle.order.specs.Order.{upFrom}
 use Rattle.order.proofs.Lists.{map-at}
-use Rattle.order.proofs.Order.{up-length}
+use Rattle.order.proofs.Order.{up-length, up-at}
 use Rattle.table.specs.declared.node.Entry.{Entry}
 use Rattle.table.specs.Page.{blankEntry}
 use Rattle.filter.specs.Walk.{spotIn}
@@ -20,7 +20,6 @@ use Rattle.filter.specs.Query.{Record, recordOf, laidOver}
 use Rattle.filter.specs.Rows.{Rows, laidIn}
 use Rattle.filter.proofs.Rows.{row-length, row-at}
 use Rattle.desk.specs.Lent.{roomOf, recordIn, recordsIn}
-use Rattle.desk.proofs.CallNumbers.{up-at}
 
 record-ext : {r s : Record} → r .number ≡ s .number → r .x ≡ s .x → r .y ≡ s .y → r .square ≡ s .square → r ≡ s
 record-ext n x y d = λ i. record { number = n i; x = x i; y = y i; square = d i }

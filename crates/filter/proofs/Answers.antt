@@ -190,7 +190,7 @@ all-free : (ws : Words) (ns : List ℕ) → every (isFree ws) ns ≡ true → jo
 all-free ws [] e = refl
 all-free ws (n ∷ ns) e = rw (free-stations ws n (and-left _ _ e)) (all-free ws ns (and-right (isFree ws n) _ e))
 
-stations-empty : (ws : Words) → isEmpty ws ≡ true → stations ws ≡ []
+pub stations-empty : (ws : Words) → isEmpty ws ≡ true → stations ws ≡ []
 unfolding stations isEmpty
 stations-empty ws e = all-free ws slots (and-right (eqb (pointsOf ws) 0) _ (and-right (isMinusOne (word ws 0)) _ e))
 

@@ -6,6 +6,7 @@ pub mod Visits
 pub mod Taken
 pub mod Turns
 pub mod NodeTurns
+pub mod Below
 pub mod Opening
 pub mod Meaning
 pub mod Testing

@@ -44,7 +44,7 @@ pub filter-all : {A : Type 0} (P : A → Bool) (xs : List A) → All (λ x. P x 
 filter-all P [] h = refl
 filter-all P (x ∷ xs) h = rw (h .0) (ap (λ l. x ∷ l) (filter-all P xs (h .1)))
 
-and-false : (b : Bool) → (b && false) ≡ false
+pub and-false : (b : Bool) → (b && false) ≡ false
 and-false true = refl
 and-false false = refl
 

@@ -89,7 +89,7 @@ leaf-turns q k n first s ten few points r = record {
 
 -- ---- a node in its slot
 
-by-pred : (P : ℕ → ℕ → Type 0) → ((l : ℕ) → P (suc l) l) → (l : ℕ) → 0 < l → P l (l - 1)
+pub by-pred : (P : ℕ → ℕ → Type 0) → ((l : ℕ) → P (suc l) l) → (l : ℕ) → 0 < l → P l (l - 1)
 by-pred P h zero pos = absurd (omega arith)
 by-pred P h (suc l) pos = subst (λ (j : ℕ). P (suc l) j) (omega arith) (h l)
 
@@ -108,11 +108,12 @@ module _ (q : Place) (k : ℕ) (ws : Words) (s : ℕ) where
       by-pred (λ l j. (now : Found) → walk q k l ws s now ≡ each (entered q k (walk q k j ws)) (nearestFirst q k (entriesAt ws s)) (withOpened q k now))
       (λ l now. refl)
 
-  passable-zero : (l : ℕ) → l ≡ 0 → Passable l ws s → All (λ e. isPoint e ≡ true) (entriesAt ws s)
+module _ (ws : Words) (s : ℕ) where
+  pub passable-zero : (l : ℕ) → l ≡ 0 → Passable l ws s → All (λ e. isPoint e ≡ true) (entriesAt ws s)
   passable-zero zero e h = h .1
   passable-zero (suc l) e h = absurd (omega arith)
 
-  passable-above : (l : ℕ) → 0 < l → Passable l ws s → All (λ e. RectOnGrid (e .rect) × Passable (l - 1) ws (e .reference)) (entriesAt ws s)
+  pub passable-above : (l : ℕ) → 0 < l → Passable l ws s → All (λ e. RectOnGrid (e .rect) × Passable (l - 1) ws (e .reference)) (entriesAt ws s)
   passable-above = by-pred (λ l j. Passable l ws s → All (λ e. RectOnGrid (e .rect) × Passable j ws (e .reference)) (entriesAt ws s)) (λ l h. h .1)
 
 -- a child's entry: its box is on the grid, and from its slot the walk can go on
@@ -127,7 +128,7 @@ module _ (q : Place) (k : ℕ) (ws : Words) (s l : ℕ) (n : Node) (first : Rows
 
   module _ (z : l ≡ 0) where
     pub leaf-points : All (λ e. isPoint e ≡ true) (held n)
-    leaf-points = rw (shows .entries) (passable-zero q k ws s l z pass)
+    leaf-points = rw (shows .entries) (passable-zero ws s l z pass)
 
     pub leaf-whole : (now : Found) → walk q k l ws s now ≡ each (visited q k) (nearestFirst q k (held n)) (withOpened q k now)
     leaf-whole now = rw (shows .entries) (walk-zero q k ws s l z now)
@@ -142,7 +143,7 @@ module _ (q : Place) (k : ℕ) (ws : Words) (s l : ℕ) (n : Node) (first : Rows
 
   module _ (up : 0 < l) where
     pub above-all : All (IsChild ws (l - 1)) (held n)
-    above-all = rw (shows .entries) (passable-above q k ws s l up pass)
+    above-all = rw (shows .entries) (passable-above ws s l up pass)
 
     pub above-whole : (now : Found) → walk q k l ws s now ≡ each (entered q k (walk q k (l - 1) ws)) (nearestFirst q k (held n)) (withOpened q k now)
     above-whole now = rw (shows .entries) (walk-above q k ws s l up now)

@@ -5,7 +5,8 @@ use mathlib.Core.Path.{_≡_, refl, sym, ap, subst, _∙_}
 use mathlib.Core.Bool.{Bool, true, cond}
 use mathlib.Core.List.{List, [], _∷_, map, map-map}
 use lib.Dec.{leb}
-use lib.ListN.{length, getD}
+use lib.ListN.{length, take, drop, getD, length-append}
+use lib.Seq.{take-at}
 use borrow.Author.Tests.{le-leb, lt-leb}
 use Rattle.grid.specs.Word.{IsWord}
 use Rattle.grid.specs.Place.{dist²}
@@ -16,7 +17,7 @@ use Rattle.order.specs.Order.{upFrom}
 use Rattle.order.proofs.Lists.{by-bool, all-at}
 use Rattle.order.proofs.Order.{up-all}
 use Rattle.table.specs.declared.node.Entry.{Entry}
-use Rattle.table.specs.Figures.{LENGTH}
+use Rattle.table.specs.Figures.{LENGTH, MOST}
 use Rattle.table.specs.Words.{Words, pointsOf}
 use Rattle.table.specs.Page.{blankEntry}
 use Rattle.table.specs.Stations.{Station, stations, isPoint}
@@ -38,7 +39,7 @@ use Rattle.filter.proofs.Rows.{row-at, rows-room, entry-back, listed-ba
 use Rattle.filter.proofs.Turns.{room-less}
 use Rattle.filter.proofs.Records.{records-laid}
 use Rattle.filter.proofs.Listing.{rising-length}
-use Rattle.filter.proofs.Testing.{leaf-points, passes-answers}
+use Rattle.filter.proofs.Testing.{passes-answers}
 
 -- ---- lists
 
@@ -68,6 +69,14 @@ module _ (ws : Words) (long : length ws ≡ LENGTH) (fits : All IsWord ws) (w : 
       let t = well-formed-tree ws long fits w e in
       omega (arith, candidates-few ws (t .level) (t .tree) (t .holds) (t .sound) q g k, held-points (t .holds)))
 
+  -- so 500 at most
+  pub found-most : length (found ws q k .candidates) ≤ MOST
+  found-most =
+      by-test (isEmpty ws) (λ e. rw (found-empty ws e q k) (omega arith))
+      (λ e.
+      let t = well-formed-tree ws long fits w e in
+      omega (arith, candidates-few ws (t .level) (t .tree) (t .holds) (t .sound) q g k, t .sound .few))
+
   module _ {before after : Rows} {s : Seen} (n : Noted (placeOf q) (found ws q k) before after s) where
     points : All Point (found ws q k .candidates)
     points = all-then (λ e. isPoint e ≡ true) Point point (found ws q k .candidates) found-points
@@ -93,7 +102,8 @@ module _ (ws : Words) (long : length ws ≡ LENGTH) (fits : All IsWord ws) (w : 
     pub found-testable : Room (pointsOf ws) before → Testable ws after (s .candidates)
     found-testable room = record {
       long = long;
-      leaves = leaf-points ws long fits w;
+      words = fits;
+      rules = w;
       room = rw (n .candidates, n .rows) (rows-room (placeOf q) (found ws q k .candidates) before _ (omega arith) (room-less found-few room));
       points = point-at;
     }
@@ -129,10 +139,22 @@ module _ (ws : Words) (long : length ws ≡ LENGTH) (fits : All IsWord ws) (w : 
       pub reply-short : length old < c → Replied ws q k before after old old (record { n = c; m = s .candidates; o = s .opened })
       reply-short h = reply-to old (rw (lt-leb (length (answersFound ws q k)) (length old) (omega (arith, counted, passing-many))))
 
-      pub reply-full : (new : List ℕ) → c ≤ length old → new ≡ laidOver (rising (passing ws after k (s .candidates))) old
-          → Replied ws q k before after old new (record { n = c; m = s .candidates; o = s .opened })
-      reply-full new h e =
-          reply-to new (rw (le-leb (length (answersFound ws q k)) (length old) (omega (arith, counted, passing-many))) (e ∙ ap (λ l. laidOver l old) passing-right))
+      -- the numbers that were kept aside
+      module _ (kept spare : List ℕ) (laid : kept ≡ laidOver (passing ws after k (s .candidates)) spare) where
+        pub kept-room : c ≤ length kept
+        kept-room =
+            let ps = passing ws after k (s .candidates) in
+            omega (arith, counted, ap length laid, length-append ps (drop (length ps) spare))
+
+        kept-front : take c kept ≡ passing ws after k (s .candidates)
+        kept-front = ap (take c) laid ∙ take-at (passing ws after k (s .candidates)) _ c (sym counted)
+
+        pub reply-full : (new : List ℕ) → c ≤ length old → new ≡ laidOver (rising (take c kept)) old
+            → Replied ws q k before after old new (record { n = c; m = s .candidates; o = s .opened })
+        reply-full new h e =
+            reply-to new
+            (rw (le-leb (length (answersFound ws q k)) (length old) (omega (arith, counted, passing-many)))
+            (e ∙ ap (λ l. laidOver (rising l) old) kept-front ∙ ap (λ l. laidOver l old) passing-right))
 
   -- the list of records after it
   pub replied-records : {before after : Rows} {old new : List ℕ} {r : Reply} → Room (pointsOf ws) before → Replied ws q k before after old new r

@@ -2,13 +2,12 @@
 use Prim.Native.Nat.{ℕ, _≤_, _<_}
 use native.Mathlib.Omega.{arith}
 use mathlib.Core.Path.{_≡_, sym, ap, subst, _∙_}
-use mathlib.Core.Bool.{Bool}
 use mathlib.Core.List.{List, map}
 use lib.ListN.{length, getD, length-map, List·getD-map}
 use lib.Seq.{getD-take}
 use Rattle.grid.specs.declared.place.Place.{Place}
 use Rattle.grid.specs.Place.{leastSquare}
-use Rattle.order.specs.Lists.{count, All}
+use Rattle.order.specs.Lists.{All}
 use Rattle.order.specs.Order.{upFrom, order, rowOf, sortBy}
 use Rattle.order.proofs.Lists.{all-at}
 use Rattle.order.proofs.Order.{sort-length, up-all, order-length, order-below, row-at, pick-all, pick-at, pick-order}
@@ -17,7 +16,7 @@ use Rattle.table.specs.declared.node.Node.{Node}
 use Rattle.table.specs.Page.{held, blankEntry}
 use Rattle.table.proofs.Nodes.{held-length}
 use Rattle.filter.specs.Walk.{nearestFirst}
-use Rattle.filter.proofs.Rows.{map-both, map-same, count-map}
+use Rattle.filter.proofs.Rows.{map-both}
 
 module _ (n : Node) (ten : length (n .entries) ≡ 10) (few : n .count ≤ 10) where
   pub held-at : (i : ℕ) → i < n .count → getD (n .entries) i blankEntry ≡ getD (held n) i blankEntry
@@ -37,11 +36,6 @@ module _ (n : Node) (ten : length (n .entries) ≡ 10) (few : n .count ≤ 10) w
       (λ i l u. ap f (held-at i (omega arith)) ∙ sym (List·getD-map f (held n) i blankEntry)))
       ∙ ap (λ (c : ℕ). map at (upFrom 0 c)) (sym same)
       ∙ pick-all (map f (held n)) (f blankEntry)
-
-  -- a test counted by places
-  pub held-count : (P : Entry → Bool) → count (λ j. P (getD (n .entries) j blankEntry)) (upFrom 0 (n .count)) ≡ count P (held n)
-  held-count P =
-      sym (count-map P (λ j. getD (n .entries) j blankEntry) (upFrom 0 (n .count))) ∙ ap (count P) (held-map (λ e. e) ∙ map-same (held n))
 
   module _ (key : Entry → ℕ) (i : ℕ) (h : i < n .count) where
     keys-length : length (map key (held n)) ≡ n .count

@@ -1,13 +1,13 @@
--- The final test slot by slot: counts over the leaves of the first slots, and what they say of all. In steps it is the test of the meaning. Assumes nothing.
-use Prim.Native.Nat.{ℕ, zero, suc, _+_, _≤_, _<_}
+-- The final test of a candidate: down the tree it counts what the meaning counts. And the candidates that pass, one by one. Assumes nothing.
+use Prim.Native.Nat.{ℕ, _+_, _≤_, _<_, min}
 use native.Mathlib.Omega.{arith}
-use native.Mathlib.Numerals.{add-one}
+use native.Mathlib.Decide.{decLt}
 use mathlib.Core.Path.{_≡_, refl, sym, ap, _∙_}
-use mathlib.Core.Bool.{Bool, true, false, cond, not, _&&_}
-use mathlib.Core.List.{List, [], _∷_, append-nil}
+use mathlib.Core.Bool.{Bool, true, false, not, _&&_}
+use mathlib.Core.List.{List, [], _∷_, _++_, map, map-append, append-nil}
 use lib.Dec.{eqb, ltb}
-use lib.ListN.{length, drop, length-map}
-use borrow.Author.Tests.{le-ltb, eq-eqb, ne-eqb}
+use lib.ListN.{length, set, length-append}
+use borrow.Author.Tests.{lt-ltb, le-ltb}
 use Rattle.grid.specs.Word.{IsWord, natOf}
 use Rattle.grid.specs.declared.place.Place.{Place}
 use Rattle.grid.specs.Place.{dist²}
@@ -16,88 +16,60 @@ use Rattle.grid.specs.Nearer.{nearerTo}
 use Rattle.grid.proofs.Site.{SiteOnGrid}
 use Rattle.order.specs.Lists.{one, count, filter, join, All}
 use Rattle.order.specs.Order.{upFrom}
-use Rattle.order.proofs.Lists.{count-append, length-filter, all-take, all-drop}
 use Rattle.order.proofs.Order.{up-all}
 use Rattle.table.specs.declared.node.Entry.{Entry}
-use Rattle.table.specs.Figures.{FAN, SLOTS, WIDTH, LENGTH}
-use Rattle.table.specs.Words.{Words, word, partAt, startOf}
-use Rattle.table.specs.Slots.{slots, levelAt, entriesAt}
+use Rattle.table.specs.Figures.{SLOTS, LENGTH}
+use Rattle.table.specs.Words.{Words, word, rootOf}
+use Rattle.table.specs.Slots.{slots, levelAt}
 use Rattle.table.specs.Stations.{stationOfEntry, stations, isPoint}
-use Rattle.audit.specs.Rules.{leafEntries, wellFormed}
-use Rattle.table.proofs.Slots.{page-few}
+use Rattle.audit.specs.Rules.{leafEntries, isEmpty, wellFormed}
 use Rattle.audit.proofs.Joined.{all-join, all-then}
+use Rattle.audit.proofs.Counted.{up-append}
 use Rattle.audit.proofs.Passed.{passed}
 use Rattle.audit.proofs.EachRule.{points-fact}
-use Rattle.audit.proofs.Enrolled.{stations-leaves}
+use Rattle.audit.proofs.FromRules.{part-fits}
+use Rattle.audit.proofs.Enrolled.{stations-length, stations-leaves}
 use Rattle.audit.proofs.Reading.{Point, point}
 use Rattle.filter.specs.Meaning.{nearerOther, answersTo}
 use Rattle.filter.specs.Walk.{spotIn}
-use Rattle.filter.specs.Query.{stationIn}
+use Rattle.filter.specs.Query.{stationIn, laidOver}
 use Rattle.filter.specs.Rows.{Rows}
-use Rattle.filter.specs.Test.{otherNearer, passes, passesAt, passing, Testable}
+use Rattle.filter.specs.Test.{otherNearer, passes, below, passesAt, passing, Testable}
 use Rattle.filter.proofs.Meaning.{count-most}
-use Rattle.filter.proofs.Rows.{count-map}
-use Rattle.filter.proofs.Answers.{nearer-site}
+use Rattle.filter.proofs.Rising.{filter-append}
+use Rattle.filter.proofs.Rows.{count-map, laid-length, laid-set}
+use Rattle.filter.proofs.Answers.{nearer-site, stations-empty}
 use Rattle.filter.proofs.Turns.{room-less}
+use Rattle.filter.proofs.Opening.{root-count}
 
--- ---- the points of one slot
+-- ---- down the tree
 
-pub leaf-none : (ws : Words) (s : ℕ) → (levelAt ws s ≡ 0 → ⊥) → leafEntries ws s ≡ []
-leaf-none ws s h = rw (ne-eqb (levelAt ws s) 0 h)
+count-zero : {A : Type 0} (P : A → Bool) (xs : List A) → length xs ≡ 0 → count P xs ≡ 0
+count-zero P xs h = omega (arith, count-most P xs)
 
-pub leaf-all : (ws : Words) (s : ℕ) → levelAt ws s ≡ 0 → leafEntries ws s ≡ entriesAt ws s
-leaf-all ws s h = rw (eq-eqb (levelAt ws s) 0 h)
-
-cond-few : (b : Bool) (es : List Entry) → length es ≤ FAN → length (cond b es []) ≤ FAN
-cond-few true es h = h
-cond-few false es h = omega arith
-
-pub leaf-few : (P : Entry → Bool) (ws : Words) (s : ℕ) → count P (leafEntries ws s) ≤ FAN
-leaf-few P ws s = omega (arith, count-most P (leafEntries ws s), cond-few (eqb (levelAt ws s) 0) (entriesAt ws s) (page-few ws s))
-
--- ---- slot by slot
-
-module _ {A : Type 0} (P : A → Bool) (S : ℕ → List A) where
-  count-slots : (a n : ℕ) → count P (join S (upFrom a (suc n))) ≡ count P (join S (upFrom a n)) + count P (S (a + n))
-  count-slots a zero =
-      let e : a + 0 ≡ a = omega arith in
-      rw e (omega (arith, ap (count P) (append-nil (S a))))
-  count-slots a (suc n) =
-      let e : suc a + n ≡ a + suc n = omega arith in
-      omega (
-        arith,
-        count-slots (suc a) n,
-        ap (λ (i : ℕ). count P (S i)) e,
-        count-append P (S a) (join S (upFrom (suc a) (suc n))),
-        count-append P (S a) (join S (upFrom (suc a) n)),
-      )
-
-  pub count-slot : (n : ℕ) → count P (join S (upFrom 0 (n + 1))) ≡ count P (join S (upFrom 0 n)) + count P (S n)
-  count-slot n =
-      let e : 0 + n ≡ n = omega arith in
-      rw add-one (omega (arith, count-slots 0 n, ap (λ (i : ℕ). count P (S i)) e))
-
-  -- the first slots have no more than all
-  count-first : (m d : ℕ) → count P (join S (upFrom 0 m)) ≤ count P (join S (upFrom 0 (m + d)))
-  count-first m zero =
-      let e : m + 0 ≡ m = omega arith in
-      rw e (omega arith)
-  count-first m (suc d) =
-      let e : m + suc d ≡ m + d + 1 = omega arith in
-      rw e (omega (arith, count-first m d, count-slot (m + d)))
+-- what stops at k is below k where all is
+most-below : (k c : ℕ) → ltb (min k c) k ≡ ltb c k
+most-below k c =
+    elim (decLt c k) [
+      | yes h ↦ lt-ltb (min k c) k (omega arith) ∙ sym (lt-ltb c k h)
+      | no h ↦ le-ltb (min k c) k (omega arith) ∙ sym (le-ltb c k (omega arith))
+    ]
 
 module _ (ws : Words) (number : ℕ) (p : Place) (far k : ℕ) where
-  -- all slots have been counted
-  pub passes-all : (n found : ℕ) → n ≡ SLOTS → found ≡ count (otherNearer number p far) (join (leafEntries ws) (upFrom 0 n)) → ltb found k ≡ passes ws number p far k
+  pub passes-empty : isEmpty ws ≡ true → ltb 0 k ≡ passes ws number p far k
   unfolding passes
-  passes-all n found e h = ap (λ (i : ℕ). ltb i k) (h ∙ ap (λ (i : ℕ). count (otherNearer number p far) (join (leafEntries ws) (upFrom 0 i))) e)
+  passes-empty e =
+      ap (λ (n : ℕ). ltb n k)
+      (sym (count-zero (otherNearer number p far) (join (leafEntries ws) slots) (sym (stations-length ws) ∙ ap length (stations-empty ws e))))
 
-  -- enough are found in the first of them
-  pub passes-not : (m d found : ℕ) → m + d ≡ SLOTS → found ≡ count (otherNearer number p far) (join (leafEntries ws) (upFrom 0 m)) → k ≤ found → passes ws number p far k ≡ false
-  passes-not m d found e h l =
-      sym (passes-all (m + d) (count (otherNearer number p far) (join (leafEntries ws) (upFrom 0 (m + d)))) e refl)
-      ∙ le-ltb (count (otherNearer number p far) (join (leafEntries ws) (upFrom 0 (m + d)))) k
-      (omega (arith, count-first (otherNearer number p far) (leafEntries ws) m d))
+  pub passes-root : (long : length ws ≡ LENGTH) (fits : All IsWord ws) (w : wellFormed ws ≡ true) → isEmpty ws ≡ false
+      → (root level : ℕ) → root ≡ rootOf ws → level ≡ levelAt ws root → (found : ℕ) → found ≡ min k (count (otherNearer number p far) (below level ws root))
+      → ltb found k ≡ passes ws number p far k
+  unfolding passes
+  passes-root long fits w e root level isRoot isLevel found f =
+      ap (λ (n : ℕ). ltb n k) f
+      ∙ most-below k (count (otherNearer number p far) (below level ws root))
+      ∙ ap (λ (n : ℕ). ltb n k) (root-count ws long fits w e root level isRoot isLevel (otherNearer number p far))
 
 -- ---- it is the test of the meaning
 
@@ -112,12 +84,8 @@ unfolding otherNearer nearerOther nearerTo
 other-same q g c e pc pe = ap (λ b. not (eqb (c .reference) (e .reference)) && b) (nearer-site q g c e pc pe)
 
 module _ (ws : Words) (long : length ws ≡ LENGTH) (fits : All IsWord ws) (w : wellFormed ws ≡ true) where
-  pub leaf-points : (s : ℕ) → s < SLOTS → All (λ e. isPoint e ≡ true) (leafEntries ws s)
+  leaf-points : (s : ℕ) → s < SLOTS → All (λ e. isPoint e ≡ true) (leafEntries ws s)
   leaf-points s h = points-fact ws s (passed ws w .four s h)
-
-  part-fits : (s : ℕ) → s < SLOTS → All IsWord (partAt ws s)
-  unfolding partAt
-  part-fits s h = all-take IsWord WIDTH (drop (startOf s) ws) (all-drop IsWord (startOf s) ws fits)
 
   all-points : All Point (join (leafEntries ws) slots)
   all-points =
@@ -135,15 +103,66 @@ module _ (ws : Words) (long : length ws ≡ LENGTH) (fits : All IsWord ws) (w : 
       (count-same (otherNearer (e .reference) (spotIn e) (dist² (placeOf q) (spotIn e))) (λ c. near (stationIn c)) L
       (all-then Point (λ c. otherNearer (e .reference) (spotIn e) (dist² (placeOf q) (spotIn e)) c ≡ near (stationIn c)) (λ c pc. other-same q g c e pc (point e pe)) L all-points)
       ∙ sym (count-map near stationOfEntry L)
-      ∙ ap (count near) (sym (stations-leaves ws part-fits)))
+      ∙ ap (count near) (sym (stations-leaves ws (λ s h. part-fits ws fits s))))
 
 -- ---- the candidates that pass
 
 pub testable-less : {ws : Words} {r : Rows} {m n : ℕ} → Testable ws r m → n ≤ m → Testable ws r n
-testable-less t h =
-    record { long = t .long; leaves = t .leaves; room = room-less h (t .room); points = λ i l. t .points i (omega arith) }
+testable-less t h = record {
+  long = t .long;
+  words = t .words;
+  rules = t .rules;
+  room = room-less h (t .room);
+  points = λ i l. t .points i (omega arith);
+}
 
-pub passing-length : (ws : Words) (r : Rows) (k m : ℕ) → length (passing ws r k m) ≡ count (passesAt ws r k) (upFrom 0 m)
-unfolding passing
-passing-length ws r k m =
-    length-map (filter (passesAt ws r k) (upFrom 0 m)) (λ i. natOf (word (r .numbers) i)) ∙ length-filter (passesAt ws r k) (upFrom 0 m)
+module _ (ws : Words) (r : Rows) (k i : ℕ) where
+  abbrev num : ℕ → ℕ
+  num j = natOf (word (r .numbers) j)
+
+  -- one candidate more
+  passing-next : passing ws r k (i + 1) ≡ passing ws r k i ++ map num (filter (passesAt ws r k) (i ∷ []))
+  unfolding passing
+  passing-next =
+      let z : 0 + i ≡ i = omega arith in
+      ap (λ l. map num (filter (passesAt ws r k) l)) (up-append 0 i 1 ∙ ap (λ (j : ℕ). upFrom 0 i ++ j ∷ []) z)
+      ∙ ap (map num) (filter-append (passesAt ws r k) (upFrom 0 i) (i ∷ []))
+      ∙ map-append num (filter (passesAt ws r k) (upFrom 0 i)) (filter (passesAt ws r k) (i ∷ []))
+
+  passing-skip : passesAt ws r k i ≡ false → passing ws r k (i + 1) ≡ passing ws r k i
+  passing-skip e = rw (passing-next, e) (append-nil (passing ws r k i))
+
+  passing-add : passesAt ws r k i ≡ true → passing ws r k (i + 1) ≡ passing ws r k i ++ num i ∷ []
+  passing-add e = rw (passing-next, e)
+
+-- the numbers of those of the first i that pass, n of them, stand at the front of a list that was old
+pub record Keeping (ws : Words) (r : Rows) (k : ℕ) (old kept : List ℕ) (n i : ℕ) : Type 0 where
+  pub few : n ≤ i
+  pub count : n ≡ length (passing ws r k i)
+  pub laid : kept ≡ laidOver (passing ws r k i) old
+
+module _ (ws : Words) (r : Rows) (k : ℕ) (old : List ℕ) where
+  pub keep-begin : Keeping ws r k old old 0 0
+  unfolding passing
+  keep-begin = record { few = omega arith; count = refl; laid = refl }
+
+  module _ {kept : List ℕ} {n i : ℕ} (f : Keeping ws r k old kept n i) where
+    pub keep-long : n ≤ length old → length kept ≡ length old
+    keep-long h = ap length (f .laid) ∙ laid-length (passing ws r k i) old (omega (arith, f .count))
+
+    pub keep-skip : passesAt ws r k i ≡ false → Keeping ws r k old kept n (i + 1)
+    keep-skip e = record { few = omega (arith, f .few); count = rw (passing-skip ws r k i e) (f .count); laid = rw (passing-skip ws r k i e) (f .laid) }
+
+    pub keep-add : n < length old → passesAt ws r k i ≡ true → Keeping ws r k old (set kept n (natOf (word (r .numbers) i))) (n + 1) (i + 1)
+    keep-add h e =
+        let before = passing ws r k i in
+        let number = natOf (word (r .numbers) i) in
+        record {
+          few = omega (arith, f .few);
+          count = rw (passing-add ws r k i e) (omega (arith, f .count, length-append before (number ∷ [])));
+          laid =
+              rw (passing-add ws r k i e)
+              (ap (λ l. set l n number) (f .laid)
+              ∙ ap (λ (j : ℕ). set (laidOver before old) j number) (f .count)
+              ∙ laid-set before old number (omega (arith, f .count)));
+        }

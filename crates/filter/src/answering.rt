@@ -1,4 +1,4 @@
-// The answers of a query: the candidates that pass the final test, counted, and written in rising order.
+// The answers of a query: the numbers of the candidates that pass the final test, kept as they are found, and written in rising order.
 ghost use mathlib.Core.Path.{_≡_};
 ghost use Prim.Native.Nat.{_+_, _≤_, _<_};
 ghost use mathlib.Core.List.{_++_};
@@ -36,8 +36,8 @@ fn passes_at(
     )
 }
 
-// How many of the first m candidates pass.
-pub fn count_passing(
+// The numbers of the first m candidates that pass go to the front of `kept`, in the order found; gives back how many.
+pub fn keep_passing(
     table: &[i32],
     numbers: &[i32],
     xs: &[i32],
@@ -45,20 +45,31 @@ pub fn count_passing(
     squares: &[u64],
     m: usize,
     k: usize,
+    kept: &mut [u32],
 ) -> usize
-    requires { ⌜ Testable (now table) (rows (now numbers) (now xs) (now ys) (now squares)) m ⌝ }
-    ensures { λ r.
+    requires { ⌜ Testable (now table) (rows (now numbers) (now xs) (now ys) (now squares)) m × (m ≤ length (now kept)) ⌝ }
+    ensures count { λ r.
         ⌜
         r ≡ length (passing (now (table .entry)) (rows (now (numbers .entry)) (now (xs .entry)) (now (ys .entry)) (now (squares .entry))) k m)
+        ⌝ }
+    ensures numbers { λ _.
+        ⌜
+        now (kept .exit) ≡ laidOver
+        (passing (now (table .entry)) (rows (now (numbers .entry)) (now (xs .entry)) (now (ys .entry)) (now (squares .entry))) k m)
+        (now (kept .entry))
         ⌝ }
 {
     let mut n = 0;
     let mut i = 0;
     while i < m {
-        if passes_at(table, numbers, xs, ys, squares, i, k) {
-            n += 1;
-        }
+        let at = i;
         i += 1;
+        if !passes_at(table, numbers, xs, ys, squares, at, k) {
+            continue;
+        }
+        let number = natural_at(numbers, at);
+        kept[n] = number as u32;
+        n += 1;
     }
     n
 }
@@ -84,37 +95,15 @@ fn insert(answers: &mut [u32], at: usize, end: usize, number: u32)
     answers[here] = number;
 }
 
-// The numbers of those that pass go in rising order to the front of the answer list; the rest of it stays.
-// The front is filled from its end n, so that each number goes in before those that stand.
-pub fn put_passing(
-    table: &[i32],
-    numbers: &[i32],
-    xs: &[i32],
-    ys: &[i32],
-    squares: &[u64],
-    m: usize,
-    k: usize,
-    answers: &mut [u32],
-    n: usize,
-)
-    requires { ⌜ Testable (now table) (rows (now numbers) (now xs) (now ys) (now squares)) m × (n ≤ length (now answers)) ⌝ }
-    requires { ⌜ n ≡ length (passing (now table) (rows (now numbers) (now xs) (now ys) (now squares)) k m) ⌝ }
-    ensures { λ _.
-        ⌜
-        now (answers .exit) ≡ laidOver
-        (rising (passing (now (table .entry)) (rows (now (numbers .entry)) (now (xs .entry)) (now (ys .entry)) (now (squares .entry))) k m))
-        (now (answers .entry))
-        ⌝ }
+// The first n of `kept` go in rising order to the front of the answer list; the rest of it stays.
+// The front is filled from its end, so that each number goes in before those that stand.
+pub fn put_rising(kept: &[u32], n: usize, answers: &mut [u32])
+    requires { ⌜ (n ≤ length (now kept)) × (n ≤ length (now answers)) ⌝ }
+    ensures { λ _. ⌜ now (answers .exit) ≡ laidOver (rising (take n (now (kept .entry)))) (now (answers .entry)) ⌝ }
 {
-    let mut at = n;
-    let mut i = m;
+    let mut i = n;
     while 0 < i {
         i -= 1;
-        if !passes_at(table, numbers, xs, ys, squares, i, k) {
-            continue;
-        }
-        at -= 1;
-        let number = natural_at(numbers, i);
-        insert(answers, at, n, number as u32);
+        insert(answers, i, n, kept[i]);
     }
 }

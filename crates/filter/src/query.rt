@@ -9,9 +9,10 @@ ghost use Rattle.table.specs.Words.{pointsOf};
 ghost use Rattle.audit.specs.Rules.{wellFormed};
 ghost use Rattle.filter.specs.Rows.{rows, Room};
 ghost use Rattle.filter.specs.Reply.{Replied};
-use crate::answering::count_passing;
-use crate::answering::put_passing;
+use crate::answering::keep_passing;
+use crate::answering::put_rising;
 use crate::find::find;
+use table::figures::Table;
 
 // n answers, m candidates, o nodes opened.
 pub struct Reply {
@@ -44,11 +45,13 @@ pub fn query(
     let seen = find(table, x, y, k, numbers, xs, ys, squares);
     let m = seen.candidates;
     let o = seen.opened;
-    let n = count_passing(table, numbers, xs, ys, squares, m, k);
+    // Kept aside until their number is known: each candidate is tested once.
+    let mut kept = [0; Table::MOST];
+    let n = keep_passing(table, numbers, xs, ys, squares, m, k, &mut kept);
     let reply = Reply { n, m, o };
     if answers.len() < n {
         return reply;
     }
-    put_passing(table, numbers, xs, ys, squares, m, k, answers, n);
+    put_rising(&kept, n, answers);
     reply
 }

@@ -16,8 +16,8 @@ use Rattle.grid.proofs.Words.{steps-word}
 use Rattle.grid.specs.Word.{stepsOf, natOf}
 use Rattle.order.specs.Lists.{All, firstPlace}
 use Rattle.order.specs.Order.{upFrom}
-use Rattle.order.proofs.Lists.{by-bool, all-at}
-use Rattle.order.proofs.Order.{up-length}
+use Rattle.order.proofs.Lists.{by-bool, map-at, all-at}
+use Rattle.order.proofs.Order.{up-length, up-at}
 use Rattle.table.specs.declared.node.Entry.{Entry}
 use Rattle.table.specs.Figures.{FAN, SLOTS, ENTRY, WIDTH, LENGTH}
 use Rattle.table.specs.Words.{Words, word, isMinusOne, startOf, partAt, placed}
@@ -212,14 +212,23 @@ page-back p f =
     ap (entryOf ws) (zero-add i)
     ∙ entry-at (pos (p .level)) (pos (length es)) es (replicate (ENTRY * (FAN - length es)) (pos 0)) i h (f .entries)))
 
--- a slot has no more entries than a node may have, whatever its words are
-pub page-few : (ws : Words) (s : ℕ) → length (entriesAt ws s) ≤ FAN
+-- word 1 of a slot says how many entries it has, eight at most
+pub entries-count : (ws : Words) (s : ℕ) → length (entriesAt ws s) ≡ filled (partAt ws s)
 unfolding pageAt pageOf
-page-few ws s =
+entries-count ws s = length-map (upFrom 0 (filled (partAt ws s))) (entryOf (partAt ws s)) ∙ up-length 0 (filled (partAt ws s))
+
+-- so no more than a node may have, whatever its words are
+pub page-few : (ws : Words) (s : ℕ) → length (entriesAt ws s) ≤ FAN
+page-few ws s = omega (arith, entries-count ws s)
+
+-- entry i of a slot is that of its words
+pub entries-at : (ws : Words) (s i : ℕ) → i < length (entriesAt ws s) → entryOf (partAt ws s) i ≡ getD (entriesAt ws s) i blankEntry
+unfolding pageAt pageOf
+entries-at ws s i h =
     let part = partAt ws s in
-    let l : length (map (entryOf part) (upFrom 0 (filled part))) ≡ filled part =
-    length-map (upFrom 0 (filled part)) (entryOf part) ∙ up-length 0 (filled part) in
-    omega arith
+    let n = filled part in
+    let l : i < n = omega (arith, entries-count ws s) in
+    sym (map-at (entryOf part) (upFrom 0 n) 0 blankEntry i (omega (arith, up-length 0 n)) ∙ ap (entryOf part) (up-at 0 n i l ∙ zero-add i))
 
 -- ---- free and used
 

@@ -2,11 +2,11 @@
 ghost use mathlib.Core.Path.{_≡_};
 ghost use Prim.Native.Nat.{_≤_, _<_, _^_};
 ghost use lib.IntN.{pos, negsuc};
-ghost use lib.ListN.{length};
+ghost use lib.ListN.{length, getD};
 ghost use Rattle.table.specs.Figures.{FAN, SLOTS, LENGTH};
 ghost use Rattle.table.specs.Words.{rootOf, pointsOf, startOf};
-ghost use Rattle.table.specs.Page.{Shows, shown, PageFits};
-ghost use Rattle.table.specs.Slots.{isFree, pageAt, levelAt, putPage, freed, lowestFree, entryFor, withRoot, withPoints};
+ghost use Rattle.table.specs.Page.{Shows, shown, PageFits, blankEntry};
+ghost use Rattle.table.specs.Slots.{isFree, pageAt, levelAt, entriesAt, putPage, freed, lowestFree, entryFor, withRoot, withPoints};
 use crate::figures::Table;
 use crate::node::Entry;
 use crate::node::Node;
@@ -76,6 +76,22 @@ pub fn node_at(table: &[i32], slot: usize) -> Node
     ensures { λ r. ⌜ Shows r (pageAt (now (table .entry)) slot) ⌝ }
 {
     part::node_of(&table[start(slot)..start(slot + 1)])
+}
+
+// How many entries the node in a slot has.
+pub fn count_at(table: &[i32], slot: usize) -> usize
+    requires { ⌜ (length (now table) ≡ LENGTH) × (slot < SLOTS) ⌝ }
+    ensures { λ r. ⌜ r ≡ length (entriesAt (now (table .entry)) slot) ⌝ }
+{
+    part::filled_part(&table[start(slot)..start(slot + 1)])
+}
+
+// One entry of the node in a slot, without the others.
+pub fn entry_at(table: &[i32], slot: usize, i: usize) -> Entry
+    requires { ⌜ (length (now table) ≡ LENGTH) × (slot < SLOTS) × (i < length (entriesAt (now table) slot)) ⌝ }
+    ensures { λ r. ⌜ r ≡ getD (entriesAt (now (table .entry)) slot) i blankEntry ⌝ }
+{
+    part::entry_of(&table[start(slot)..start(slot + 1)], i)
 }
 
 pub fn put_node_at(table: &mut [i32], slot: usize, n: Node)

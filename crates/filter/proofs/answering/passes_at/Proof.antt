@@ -23,7 +23,7 @@ passes-requires c κs =
     let s = c .before .before .before .before in
     let a = s .args in
     let p = point (entryIn (rows (a .numbers .now) (a .xs .now) (a .ys .now) (a .squares .now)) (a .i)) (s .pre .points (a .i) (omega arith)) in
-    ((s .pre .long, rw (c .before .place-at .ensures) (record { x = p .x .grid; y = p .y .grid })), s .pre .leaves)
+    (s .pre .long, s .pre .words, s .pre .rules, rw (c .before .place-at .ensures) (record { x = p .x .grid; y = p .y .grid }))
 
 returns : tie.Need-returns
 returns c =

@@ -1,8 +1,5 @@
 -- `filter::query::query` meets its contract: after the walk the rows hold the candidates, and those that pass are the answers. Assumes nothing.
 use native.Mathlib.Omega.{arith}
-use Rattle.grid.specs.Site.{Site}
-use Rattle.grid.proofs.Site.{SiteOnGrid}
-use Rattle.filter.proofs.Replies.{found-testable, reply-short, reply-full}
 use mathlib.Core.Path.{_≡_}
 use mathlib.Core.Bool.{true}
 use lib.IntN.{ℤ}
@@ -10,7 +7,10 @@ use mir.Syntax.{w32}
 use mir.ValLaws.{toZ-ofZ}
 use mir.Val.{toZ, ofZ}
 use Rattle.grid.specs.Word.{onGrid}
+use Rattle.grid.specs.Site.{Site}
 use Rattle.grid.proofs.Words.{word-fits, grid-word}
+use Rattle.grid.proofs.Site.{SiteOnGrid}
+use Rattle.filter.proofs.Replies.{found-most, found-testable, reply-short, kept-room, reply-full}
 use borrow.Author.Needs.{needs}
 use Rattle.filter.proofs.query.query.Statement.{statement}
 use Rattle.filter.proofs.query.query.Tie as tie
@@ -26,15 +26,18 @@ find-requires c κs =
     let y = s .pre .1 .0 .1 in
     (s .pre .0, ((rw (passed (s .args .x) x) x, rw (passed (s .args .y) y) y), s .pre .1 .1))
 
-count-passing-requires : tie.Need-count-passing-requires
-count-passing-requires c κs =
-    let f = c .before .before .before .before .before .before .before .before .before in
+slice-aggregate-keep-passing : tie.Need-slice-aggregate-keep-passing
+slice-aggregate-keep-passing c = search needs
+
+keep-passing-requires : tie.Need-keep-passing-requires
+keep-passing-requires c κs =
+    let f = c .before .before .before .before .before .before .before .before .before .before in
     let s = f .before .before .before .before .before .before .before in
     let q : Site = record { x = s .args .x; y = s .args .y } in
     let grid : SiteOnGrid q = record { x = s .pre .1 .0 .0; y = s .pre .1 .0 .1 } in
     let ws = s .args .table .now in
     let noted = rw (passed (s .args .x) (grid .x), passed (s .args .y) (grid .y)) at (f .find .ensures) in
-    found-testable ws (s .pre .0 .0) (s .pre .0 .1) (s .pre .0 .2) q grid (s .args .k) noted (s .pre .1 .1)
+    (found-testable ws (s .pre .0 .0) (s .pre .0 .1) (s .pre .0 .2) q grid (s .args .k) noted (s .pre .1 .1), omega (arith, noted .candidates, found-most ws (s .pre .0 .0) (s .pre .0 .1) (s .pre .0 .2) q grid (s .args .k)))
 
 same-length : tie.Need-same-length
 same-length c = search needs
@@ -50,26 +53,29 @@ same-length-4 c = search needs
 
 returns : tie.Need-returns
 returns c =
-    let o = c .before in
-    let f = o .before .before .before .before .before .before .before .before .before .before in
+    let o = c .before .before in
+    let f = o .before .before .before .before .before .before .before .before .before .before .before in
     let s = f .before .before .before .before .before .before .before in
     let q : Site = record { x = s .args .x; y = s .args .y } in
     let grid : SiteOnGrid q = record { x = s .pre .1 .0 .0; y = s .pre .1 .0 .1 } in
     let ws = s .args .table .now in
     let noted = rw (passed (s .args .x) (grid .x), passed (s .args .y) (grid .y)) at (f .find .ensures) in
-    reply-short ws (s .pre .0 .0) (s .pre .0 .1) (s .pre .0 .2) q grid (s .args .k) noted (o .count-passing .result) (o .count-passing .ensures) (s .args .answers .now) (c .if1 .taken)
+    reply-short ws (s .pre .0 .0) (s .pre .0 .1) (s .pre .0 .2) q grid (s .args .k) noted (o .keep-passing .result) (o .keep-passing .ensures .0) (s .args .answers .now) (c .if1 .taken)
 
-put-passing-requires : tie.Need-put-passing-requires
-put-passing-requires c κs =
-    let e = c .before .before .before .before .before in
-    let o = e .before in
-    let f = o .before .before .before .before .before .before .before .before .before .before in
+slice-aggregate-put-rising : tie.Need-slice-aggregate-put-rising
+slice-aggregate-put-rising c = search needs
+
+put-rising-requires : tie.Need-put-rising-requires
+put-rising-requires c κs =
+    let e = c .before .before in
+    let o = e .before .before in
+    let f = o .before .before .before .before .before .before .before .before .before .before .before in
     let s = f .before .before .before .before .before .before .before in
     let q : Site = record { x = s .args .x; y = s .args .y } in
     let grid : SiteOnGrid q = record { x = s .pre .1 .0 .0; y = s .pre .1 .0 .1 } in
     let ws = s .args .table .now in
     let noted = rw (passed (s .args .x) (grid .x), passed (s .args .y) (grid .y)) at (f .find .ensures) in
-    ((found-testable ws (s .pre .0 .0) (s .pre .0 .1) (s .pre .0 .2) q grid (s .args .k) noted (s .pre .1 .1), omega (arith, e .if1 .left)), o .count-passing .ensures)
+    (kept-room ws (s .pre .0 .0) (s .pre .0 .1) (s .pre .0 .2) q grid (s .args .k) noted (o .keep-passing .result) (o .keep-passing .ensures .0) (s .args .answers .now) _ _ (o .keep-passing .ensures .1), omega (arith, e .if1 .left))
 
 same-length-5 : tie.Need-same-length-5
 same-length-5 c = search needs
@@ -89,28 +95,30 @@ same-length-9 c = search needs
 returns-2 : tie.Need-returns-2
 returns-2 c =
     let v = c .before .before in
-    let e = v .before .before .before .before .before .before in
-    let o = e .before in
-    let f = o .before .before .before .before .before .before .before .before .before .before in
+    let e = v .before .before .before in
+    let o = e .before .before in
+    let f = o .before .before .before .before .before .before .before .before .before .before .before in
     let s = f .before .before .before .before .before .before .before in
     let q : Site = record { x = s .args .x; y = s .args .y } in
     let grid : SiteOnGrid q = record { x = s .pre .1 .0 .0; y = s .pre .1 .0 .1 } in
     let ws = s .args .table .now in
     let noted = rw (passed (s .args .x) (grid .x), passed (s .args .y) (grid .y)) at (f .find .ensures) in
-    reply-full ws (s .pre .0 .0) (s .pre .0 .1) (s .pre .0 .2) q grid (s .args .k) noted (o .count-passing .result) (o .count-passing .ensures) (s .args .answers .now) _ (omega (arith, e .if1 .left)) (v .put-passing .ensures)
+    reply-full ws (s .pre .0 .0) (s .pre .0 .1) (s .pre .0 .2) q grid (s .args .k) noted (o .keep-passing .result) (o .keep-passing .ensures .0) (s .args .answers .now) _ _ (o .keep-passing .ensures .1) _ (omega (arith, e .if1 .left)) (v .put-rising .ensures)
 
 pub query-spec : {M : Type 1} → statement M
 query-spec =
     tie.close
     (tie.spec
     find-requires
-    count-passing-requires
+    slice-aggregate-keep-passing
+    keep-passing-requires
     same-length
     same-length-2
     same-length-3
     same-length-4
     returns
-    put-passing-requires
+    slice-aggregate-put-rising
+    put-rising-requires
     same-length-5
     same-length-6
     same-length-7

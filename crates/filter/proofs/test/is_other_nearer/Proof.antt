@@ -6,17 +6,16 @@ use borrow.Author.Needs.{needs}
 use Rattle.filter.proofs.test.is_other_nearer.Statement.{statement}
 use Rattle.filter.proofs.test.is_other_nearer.Tie as tie
 
+square-to-requires : tie.Need-square-to-requires
+square-to-requires c κs =
+    let p = point (c .args .e) (c .pre .0) in
+    (record { x = p .x .grid; y = p .y .grid }, c .pre .1)
+
 returns : tie.Need-returns
 unfolding otherNearer
 returns c =
     let a = c .before .before .args in
     rw (eq-eqb (a .e .reference) (a .number) (c .if1 .taken))
-
-square-to-requires : tie.Need-square-to-requires
-square-to-requires c κs =
-    let s = c .before .before in
-    let p = point (s .args .e) (s .pre .0) in
-    (record { x = p .x .grid; y = p .y .grid }, s .pre .1)
 
 is-nearer-requires : tie.Need-is-nearer-requires
 is-nearer-requires c κs = search needs
@@ -24,9 +23,10 @@ is-nearer-requires c κs = search needs
 returns-2 : tie.Need-returns-2
 unfolding otherNearer
 returns-2 c =
-    let f = c .before .before in
-    let a = f .before .before .args in
-    rw (ne-eqb (a .e .reference) (a .number) (f .if1 .left), ← (c .before .square-to .ensures)) (c .is-nearer .ensures)
+    let f = c .before in
+    let o = f .before in
+    let a = o .before .args in
+    rw (ne-eqb (a .e .reference) (a .number) (f .if1 .left), ← (o .square-to .ensures)) (c .is-nearer .ensures)
 
 pub is-other-nearer-spec : {M : Type 1} → statement M
-is-other-nearer-spec = tie.close (tie.spec returns square-to-requires is-nearer-requires returns-2)
+is-other-nearer-spec = tie.close (tie.spec square-to-requires returns is-nearer-requires returns-2)

@@ -1,42 +1,63 @@
--- `filter::test::others_in` meets its contract. The loop's invariant: `found` counts those of the first `i` entries. Assumes nothing.
-use Prim.Native.Nat.{ℕ, _≤_, _-_}
+-- `filter::test::others_in` meets its contract. The loop's invariant: `found` counts those of the first `i` entries, `most` at most. Assumes nothing.
+use Prim.Native.Nat.{ℕ, _+_, _-_, _≤_, _<_, min}
 use native.Mathlib.Omega.{arith}
-use mathlib.Core.Path.{_≡_, refl, sym, _∙_}
+use mathlib.Core.Path.{_≡_, ap, _∙_}
 use mathlib.Core.Bool.{Bool, true, false}
 use mathlib.Core.Logic.{⊎-elim}
-use lib.ListN.{getD}
-use Rattle.order.specs.Lists.{count as countOf}
-use Rattle.order.specs.Order.{upFrom}
+use mathlib.Core.List.{List, [], _∷_}
+use lib.ListN.{length, getD}
+use borrow.Author.Needs.{needs}
+use Rattle.order.specs.Lists.{one, count as countOf}
+use Rattle.order.proofs.Lists.{join-one, all-at}
+use Rattle.table.specs.declared.node.Entry.{Entry}
 use Rattle.table.specs.Page.{blankEntry}
+use Rattle.table.specs.Slots.{entriesAt}
 use Rattle.table.specs.Stations.{isPoint}
-use Rattle.table.proofs.Nodes.{full}
 use Rattle.filter.specs.Test.{otherNearer}
-use Rattle.filter.proofs.Rows.{tally}
-use Rattle.filter.proofs.Taken.{held-all, held-count}
+use Rattle.filter.proofs.Below.{SoFar, sofar-next, sofar-enough, sofar-all}
 use Rattle.filter.proofs.test.others_in.Statement.{statement}
 use Rattle.filter.proofs.test.others_in.Tie as tie
 
+-- an entry by itself
+abbrev alone : Entry → List Entry
+alone e = e ∷ []
+
 abbrev Inv-loop : tie.InvT-loop
-Inv-loop number p far n count found₀ i₀ found i =
-    (i ≤ count) × (found ≤ i) × (found ≡ countOf (λ j. otherNearer number p far (getD (n .entries) j blankEntry)) (upFrom 0 i))
+Inv-loop table slot number p far most count found₀ i₀ found i =
+    (i ≤ count) × SoFar (otherNearer number p far) alone (entriesAt table slot) most i found
 
 abbrev μ-loop : tie.MeasureT-loop
-μ-loop number p far n count found₀ i₀ found i = count - i
+μ-loop table slot number p far most count found₀ i₀ found i = count - i
+
+count-at-requires : tie.Need-count-at-requires Inv-loop μ-loop
+count-at-requires c κs = search needs
 
 loop-holds : tie.Need-loop-holds Inv-loop μ-loop
-loop-holds c = (omega arith, omega arith, refl)
+loop-holds c = (omega arith, omega arith)
 
-mul-e : tie.Need-mul-e Inv-loop μ-loop
-mul-e c = omega arith
+returns : tie.Need-returns Inv-loop μ-loop
+returns c =
+    let l = c .before .before in
+    let a = l .before .before .args in
+    let P = otherNearer (a .number) (a .p) (a .far) in
+    let es = entriesAt (a .table .now) (a .slot) in
+    sofar-enough P alone es (a .most) (l .loop .i) (l .loop .found) (omega (arith, c .if1 .taken)) (l .loop .inv .1)
+    ∙ ap (λ l. min (a .most) (countOf P l)) (join-one es)
 
-element-copy-out-e : tie.Need-element-copy-out-e Inv-loop μ-loop
-element-copy-out-e c = omega arith
+entry-at-requires : tie.Need-entry-at-requires Inv-loop μ-loop
+entry-at-requires c κs =
+    let t = c .before in
+    (omega arith, omega arith, omega (arith, t .loop-test .taken, t .before .before .count-at .ensures))
 
 is-other-nearer-requires : tie.Need-is-other-nearer-requires Inv-loop μ-loop
 is-other-nearer-requires c κs =
-    let s = c .before .before .before in
-    let n = s .args .t1 in
-    (held-all n (full n (s .good .0)) (s .pre .0) (λ e. isPoint e ≡ true) (s .pre .2) (c .before .before .loop .i) (omega arith), s .pre .1)
+    let t = c .before .before in
+    let n = t .before .before in
+    let s = n .before in
+    let es = entriesAt (s .args .table .now) (s .args .slot) in (
+      rw (c .entry-at .ensures) (all-at (λ e. isPoint e ≡ true) es (t .before .loop .i) blankEntry (omega (arith, t .loop-test .taken, n .count-at .ensures)) (s .pre .1)),
+      s .pre .0 .2,
+    )
 
 add-found : tie.Need-add-found Inv-loop μ-loop
 add-found c = omega arith
@@ -49,22 +70,34 @@ loop-less c = omega arith
 
 loop-again : tie.Need-loop-again Inv-loop μ-loop
 loop-again c =
-    let l = c .before .before .before .before in
-    let a = l .before .args in
-    let P : ℕ → Bool = λ j. otherNearer (a .number) (a .p) (a .far) (getD (a .t1 .entries) j blankEntry) in
-    let e : c .before .is-other-nearer .result ≡ P (l .loop .i) = c .before .is-other-nearer .ensures in
+    let o = c .before in
+    let e = o .before in
+    let t = e .before .before in
+    let l = t .before in
+    let n = l .before in
+    let a = n .before .args in
+    let P = otherNearer (a .number) (a .p) (a .far) in
+    let es = entriesAt (a .table .now) (a .slot) in
+    let i = l .loop .i in
+    let found = l .loop .found in
+    let inside : i < length es = omega (arith, t .loop-test .taken, n .count-at .ensures) in
+    let tested : o .is-other-nearer .result ≡ P (getD es i blankEntry) = rw (← (e .entry-at .ensures)) (o .is-other-nearer .ensures) in
+    let next : (b : Bool) → o .is-other-nearer .result ≡ b → (more : ℕ) → more ≡ min (a .most - found) (one b + 0) → SoFar P alone es (a .most) (i + 1) (found + more) = λ b h more m.
+    sofar-next P alone es (a .most) i found more blankEntry inside (omega (arith, e .before .if1 .left)) (l .loop .inv .1) (rw (← tested, h) m) in
     ⊎-elim
-    (λ w. (omega arith, omega arith, omega (arith, tally P (l .loop .i) (l .loop .found) true (sym (w .0 .taken) ∙ e) (l .loop .inv .2))))
-    (λ w. (omega arith, omega arith, omega (arith, tally P (l .loop .i) (l .loop .found) false (sym (w .0 .left) ∙ e) (l .loop .inv .2))))
-    (c .if1 .came)
+    (λ w. (omega (arith, t .loop-test .taken), omega (arith, next true (w .0 .taken) 1 (omega (arith, e .before .if1 .left)))))
+    (λ w. (omega (arith, t .loop-test .taken), omega (arith, next false (w .0 .left) 0 (omega arith))))
+    (c .if2 .came)
 
-returns : tie.Need-returns Inv-loop μ-loop
-returns c =
+returns-2 : tie.Need-returns-2 Inv-loop μ-loop
+returns-2 c =
     let l = c .before in
-    let s = l .before in
-    let n = s .args .t1 in
-    let e : l .loop .i ≡ n .count = omega arith in
-    (rw e at (l .loop .inv .2)) ∙ held-count n (full n (s .good .0)) (s .pre .0) (otherNearer (s .args .number) (s .args .p) (s .args .far))
+    let n = l .before in
+    let a = n .before .args in
+    let P = otherNearer (a .number) (a .p) (a .far) in
+    let es = entriesAt (a .table .now) (a .slot) in
+    sofar-all P alone es (a .most) (l .loop .i) (l .loop .found) (omega (arith, c .loop-test .left, n .count-at .ensures)) (l .loop .inv .1)
+    ∙ ap (λ l. min (a .most) (countOf P l)) (join-one es)
 
 pub others-in-spec : {M : Type 1} → statement M
 others-in-spec =
@@ -72,12 +105,13 @@ others-in-spec =
     (tie.spec
     Inv-loop
     μ-loop
+    count-at-requires
     loop-holds
-    mul-e
-    element-copy-out-e
+    returns
+    entry-at-requires
     is-other-nearer-requires
     add-found
     add-i
     loop-less
     loop-again
-    returns)
+    returns-2)

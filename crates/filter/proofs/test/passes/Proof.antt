@@ -1,84 +1,68 @@
--- `filter::test::passes` meets its contract. The loop's invariant: `found` counts the others that are nearer in the slots passed, at most eight in each. Assumes nothing.
-use Prim.Native.Nat.{_+_, _-_, _*_, _≤_}
+-- `filter::test::passes` meets its contract: from the root down, the points are those of all leaves. Assumes nothing.
 use native.Mathlib.Omega.{arith}
-use mathlib.Core.Path.{_≡_, refl, sym}
-use Rattle.order.specs.Lists.{count as countOf, join}
-use Rattle.order.specs.Order.{upFrom}
-use Rattle.table.specs.Figures.{FAN, SLOTS}
-use Rattle.audit.specs.Rules.{leafEntries}
-use Rattle.filter.specs.Test.{otherNearer}
-use Rattle.filter.proofs.Testing.{leaf-few, count-slot, passes-all, passes-not}
+use mathlib.Core.Path.{_≡_, refl, sym, _∙_}
+use borrow.Author.Needs.{needs}
+use Rattle.table.specs.Words.{pointsOf}
+use Rattle.table.specs.Slots.{levelAt}
+use Rattle.filter.proofs.NodeTurns.{passable-slot}
+use Rattle.filter.proofs.Opening.{no-points, some-points, root-passable, root-boxed}
+use Rattle.filter.proofs.Testing.{passes-empty, passes-root}
 use Rattle.filter.proofs.test.passes.Statement.{statement}
 use Rattle.filter.proofs.test.passes.Tie as tie
 
-abbrev Inv-loop : tie.InvT-loop
-Inv-loop table number p far k found₀ slot₀ found slot =
-    (slot ≤ SLOTS) × (found ≤ FAN * slot) × (found ≡ countOf (otherNearer number p far) (join (leafEntries table) (upFrom 0 slot)))
+points-of-requires : tie.Need-points-of-requires
+points-of-requires c κs = search needs
 
-abbrev μ-loop : tie.MeasureT-loop
-μ-loop table number p far k found₀ slot₀ found slot = SLOTS - slot
-
-loop-holds : tie.Need-loop-holds Inv-loop μ-loop
-loop-holds c = (omega arith, omega arith, refl)
-
-others-at-requires : tie.Need-others-at-requires Inv-loop μ-loop
-others-at-requires c κs =
-    let s = c .before .before in
-    ((s .pre .0 .0, c .loop-test .taken, s .pre .0 .1), s .pre .1 (c .before .loop .slot) (c .loop-test .taken))
-
-add-found : tie.Need-add-found Inv-loop μ-loop
-add-found c =
-    let l = c .before .before in
-    let a = l .before .args in
-    let P = otherNearer (a .number) (a .p) (a .far) in
-    let few : c .others-at .result ≤ FAN = omega (arith, c .others-at .ensures, leaf-few P (a .table .now) (l .loop .slot)) in
-    omega arith
-
-returns : tie.Need-returns Inv-loop μ-loop
+returns : tie.Need-returns
 returns c =
     let o = c .before in
-    let l = o .before .before in
-    let a = l .before .args in
-    let P = otherNearer (a .number) (a .p) (a .far) in
-    let few : o .others-at .result ≤ FAN = omega (arith, o .others-at .ensures, leaf-few P (a .table .now) (l .loop .slot)) in
-    let next : l .loop .found + o .others-at .result ≡ countOf P (join (leafEntries (a .table .now)) (upFrom 0 (l .loop .slot + 1))) =
-    omega (arith, l .loop .inv .2, o .others-at .ensures, count-slot P (leafEntries (a .table .now)) (l .loop .slot)) in
-    sym (passes-not (a .table .now) (a .number) (a .p) (a .far) (a .k) (l .loop .slot + 1) (SLOTS - (l .loop .slot + 1)) _ (omega (arith, o .before .loop-test .taken)) next (omega (arith, c .if1 .taken)))
+    let s = o .before in
+    let a = s .args in
+    let ws = a .table .now in
+    let z : pointsOf ws ≡ 0 = sym (o .points-of .ensures) ∙ c .if1 .taken in
+    passes-empty ws (a .number) (a .p) (a .far) (a .k) (no-points ws (s .pre .0) (s .pre .1) (s .pre .2) z)
 
-add-slot : tie.Need-add-slot Inv-loop μ-loop
-add-slot c = omega arith
+root-of-requires : tie.Need-root-of-requires
+root-of-requires c κs = search needs
 
-loop-less : tie.Need-loop-less Inv-loop μ-loop
-loop-less c = omega arith
+level-at-requires : tie.Need-level-at-requires
+level-at-requires c κs =
+    let e = c .before in
+    let s = e .before .before in
+    let ws = s .args .table .now in
+    let some = some-points ws (s .pre .0) (s .pre .1) (s .pre .2) (omega (arith, e .before .points-of .ensures, e .if1 .left)) in
+    let root = c .root-of .result in
+    (s .pre .0, passable-slot (levelAt ws root) ws root (root-passable ws (s .pre .0) (s .pre .1) (s .pre .2) some root _ (c .root-of .ensures) refl))
 
-loop-again : tie.Need-loop-again Inv-loop μ-loop
-loop-again c =
+others-below-requires : tie.Need-others-below-requires
+others-below-requires c κs =
     let o = c .before in
-    let l = o .before .before in
-    let a = l .before .args in
-    let P = otherNearer (a .number) (a .p) (a .far) in
-    let few : o .others-at .result ≤ FAN = omega (arith, o .others-at .ensures, leaf-few P (a .table .now) (l .loop .slot)) in
-    let next : l .loop .found + o .others-at .result ≡ countOf P (join (leafEntries (a .table .now)) (upFrom 0 (l .loop .slot + 1))) =
-    omega (arith, l .loop .inv .2, o .others-at .ensures, count-slot P (leafEntries (a .table .now)) (l .loop .slot)) in
-    (omega (arith, o .before .loop-test .taken), omega arith, next)
+    let e = o .before in
+    let s = e .before .before in
+    let ws = s .args .table .now in
+    let some = some-points ws (s .pre .0) (s .pre .1) (s .pre .2) (omega (arith, e .before .points-of .ensures, e .if1 .left)) in (
+      (s .pre .0, s .pre .3),
+      (root-passable ws (s .pre .0) (s .pre .1) (s .pre .2) some _ _ (o .root-of .ensures) (c .level-at .ensures), root-boxed ws (s .pre .0) (s .pre .1) (s .pre .2) some _ _ (o .root-of .ensures) (c .level-at .ensures)),
+    )
 
-returns-2 : tie.Need-returns-2 Inv-loop μ-loop
+returns-2 : tie.Need-returns-2
 returns-2 c =
-    let l = c .before in
-    let a = l .before .args in
-    passes-all (a .table .now) (a .number) (a .p) (a .far) (a .k) (l .loop .slot) (l .loop .found) (omega arith) (l .loop .inv .2)
+    let v = c .before in
+    let o = v .before in
+    let e = o .before in
+    let s = e .before .before in
+    let a = s .args in
+    let ws = a .table .now in
+    let some = some-points ws (s .pre .0) (s .pre .1) (s .pre .2) (omega (arith, e .before .points-of .ensures, e .if1 .left)) in
+    passes-root ws (a .number) (a .p) (a .far) (a .k) (s .pre .0) (s .pre .1) (s .pre .2) some _ _ (o .root-of .ensures) (v .level-at .ensures) _ (c .others-below .ensures)
 
 pub passes-spec : {M : Type 1} → statement M
 passes-spec =
     tie.close
     (tie.spec
-    Inv-loop
-    μ-loop
-    loop-holds
-    others-at-requires
-    add-found
+    points-of-requires
     returns
-    add-slot
-    loop-less
-    loop-again
+    root-of-requires
+    level-at-requires
+    others-below-requires
     returns-2)
