@@ -4,8 +4,52 @@ extern "C" {
     fn ullagreth_check(table: *const i32, length: usize) -> u8;
     fn ullagreth_enrol(table: *mut i32, length: usize, number: i32, x: i32, y: i32) -> u8;
     fn ullagreth_withdraw(table: *mut i32, length: usize, number: i32) -> u8;
-    #[cfg(query)]
+}
+
+/// A query of the library: the table, x, y and k, the four rows of the candidate list, the answer list, the counts.
+#[cfg(query)]
+type Query = unsafe extern "C" fn(
+    *const i32,
+    usize,
+    i32,
+    i32,
+    i32,
+    *mut i32,
+    usize,
+    *mut i32,
+    usize,
+    *mut i32,
+    usize,
+    *mut u64,
+    usize,
+    *mut u32,
+    usize,
+    *mut u64,
+    usize,
+) -> u8;
+
+#[cfg(query)]
+extern "C" {
     fn ullagreth_query(
+        table: *const i32,
+        length: usize,
+        x: i32,
+        y: i32,
+        k: i32,
+        numbers: *mut i32,
+        numbers_length: usize,
+        xs: *mut i32,
+        xs_length: usize,
+        ys: *mut i32,
+        ys_length: usize,
+        squares: *mut u64,
+        squares_length: usize,
+        answers: *mut u32,
+        answers_length: usize,
+        counts: *mut u64,
+        counts_length: usize,
+    ) -> u8;
+    fn ullagreth_query_passing(
         table: *const i32,
         length: usize,
         x: i32,
@@ -67,8 +111,19 @@ impl Lists {
 
 #[cfg(query)]
 pub fn query(table: &[i32], x: i32, y: i32, k: i32, l: &mut Lists) -> i32 {
+    asked(ullagreth_query, table, x, y, k, l)
+}
+
+/// Only for a table that passes the check: it is not checked again.
+#[cfg(query)]
+pub fn query_passing(table: &[i32], x: i32, y: i32, k: i32, l: &mut Lists) -> i32 {
+    asked(ullagreth_query_passing, table, x, y, k, l)
+}
+
+#[cfg(query)]
+fn asked(query: Query, table: &[i32], x: i32, y: i32, k: i32, l: &mut Lists) -> i32 {
     let given = unsafe {
-        ullagreth_query(
+        query(
             table.as_ptr(),
             table.len(),
             x,

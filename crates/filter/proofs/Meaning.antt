@@ -21,7 +21,7 @@ use Rattle.filter.specs.Meaning.{nearerOther, answersTo, rising, answer}
 
 -- ---- lists
 
-one-most : (b : Bool) → one b ≤ 1
+pub one-most : (b : Bool) → one b ≤ 1
 one-most true = omega arith
 one-most false = omega arith
 

@@ -66,13 +66,12 @@ rows-add q r m e k room =
 
 -- ---- a visit
 
-module _ (e : Entry) (q : Place) (k : ℕ) (r : Rows) (s : Seen) (n : ℕ) (t : Bool)
-    (counted : n ≡ count (λ i. nearerTo (spotIn e) (placeIn (r .xs) (r .ys) i) q) (upFrom 0 (s .candidates))) (tested : t ≡ leb k n) where
+module _ (e : Entry) (q : Place) (k : ℕ) (r : Rows) (s : Seen) (t : Bool)
+    (tested : t ≡ leb k (count (λ i. nearerTo (spotIn e) (placeIn (r .xs) (r .ys) i) q) (upFrom 0 (s .candidates)))) where
   -- the test of the code is that of the walk
   visit-test : pointHidden q k (listed r (s .candidates)) e ≡ t
   unfolding pointHidden
-  visit-test =
-      ap (leb k) (listed-count r (s .candidates) (λ p. nearerTo (spotIn e) p q) ∙ sym counted) ∙ sym tested
+  visit-test = ap (leb k) (listed-count r (s .candidates) (λ p. nearerTo (spotIn e) p q)) ∙ sym tested
 
   visit-cond : visited q k e (foundIn r s) ≡ cond t (foundIn r s) (withCandidate q k e (foundIn r s))
   visit-cond = rw visit-test
@@ -101,12 +100,12 @@ module _ (e : Entry) (q : Place) (k : ℕ) (r : Rows) (s : Seen) (n : ℕ) (t : 
 
 -- ---- a child's turn
 
-module _ (e : Entry) (q : Place) (k : ℕ) (r : Rows) (s : Seen) (n : ℕ) (t : Bool)
-    (counted : n ≡ count (λ i. cornersNearer (e .rect) (placeIn (r .xs) (r .ys) i) q) (upFrom 0 (s .candidates))) (tested : t ≡ leb k n)
+module _ (e : Entry) (q : Place) (k : ℕ) (r : Rows) (s : Seen) (t : Bool)
+    (tested : t ≡ leb k (count (λ i. cornersNearer (e .rect) (placeIn (r .xs) (r .ys) i) q) (upFrom 0 (s .candidates))))
     (opening : ℕ → Found → Found) where
   enter-test : boxHidden q k (listed r (s .candidates)) e ≡ t
   unfolding boxHidden
-  enter-test = ap (leb k) (listed-count r (s .candidates) (λ p. cornersNearer (e .rect) p q) ∙ sym counted) ∙ sym tested
+  enter-test = ap (leb k) (listed-count r (s .candidates) (λ p. cornersNearer (e .rect) p q)) ∙ sym tested
 
   pub enter-hidden : t ≡ true → entered q k opening e (foundIn r s) ≡ foundIn r s
   enter-hidden h = rw (enter-test, h)

@@ -9,8 +9,7 @@ ghost use Rattle.grid.specs.Place.{PlaceOnGrid, dist²};
 ghost use Rattle.table.specs.Stations.{isPoint};
 ghost use Rattle.filter.specs.Walk.{spotIn, visited};
 ghost use Rattle.filter.specs.Rows.{rows, lengthIn, Ready, Went};
-use crate::discard::enough;
-use crate::discard::nearer_to;
+use crate::discard::hides_point;
 use crate::seen::Seen;
 use grid::border;
 use grid::place::Place;
@@ -80,7 +79,7 @@ pub fn visit(
         y: e.rect.y.low,
     };
     let at = seen.candidates;
-    if enough(nearer_to(xs, ys, at, p, q), k) {
+    if hides_point(xs, ys, at, p, q, k) {
         return seen;
     }
     note(e, q, at, numbers, xs, ys, squares);

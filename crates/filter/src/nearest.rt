@@ -2,7 +2,6 @@
 ghost use mathlib.Core.Path.{_≡_};
 ghost use Prim.Native.Nat.{_≤_};
 ghost use mathlib.Core.List.{map};
-ghost use lib.ListN.{take};
 ghost use Rattle.grid.specs.Place.{PlaceOnGrid, RectOnGrid, leastSquare};
 ghost use Rattle.order.specs.Lists.{All};
 ghost use Rattle.order.specs.Order.{rowOf};
@@ -10,10 +9,10 @@ ghost use Rattle.table.specs.Page.{held};
 use grid::place::Place;
 use table::node::Node;
 
-// The key of each entry.
-fn keys_of(n: Node, q: Place) -> [u64; order::MOST]
+// The places of the entries, nearest first.
+pub fn nearest(n: Node, q: Place) -> [usize; order::MOST]
     requires { ⌜ (n .count ≤ 10) × PlaceOnGrid q × All (λ e. RectOnGrid (e .rect)) (held n) ⌝ }
-    ensures { λ r. ⌜ take (n .count) r ≡ map (λ e. leastSquare (e .rect) q) (held n) ⌝ }
+    ensures { λ r. ⌜ r ≡ rowOf (map (λ e. leastSquare (e .rect) q) (held n)) ⌝ }
 {
     let mut keys = [0; order::MOST];
     let count = n.count;
@@ -23,14 +22,5 @@ fn keys_of(n: Node, q: Place) -> [u64; order::MOST]
         keys[i] = e.rect.least_square(q);
         i += 1;
     }
-    keys
-}
-
-// The places of the entries, nearest first.
-pub fn nearest(n: Node, q: Place) -> [usize; order::MOST]
-    requires { ⌜ (n .count ≤ 10) × PlaceOnGrid q × All (λ e. RectOnGrid (e .rect)) (held n) ⌝ }
-    ensures { λ r. ⌜ r ≡ rowOf (map (λ e. leastSquare (e .rect) q) (held n)) ⌝ }
-{
-    let count = n.count;
-    order::in_order(keys_of(n, q), count)
+    order::in_order(keys, count)
 }

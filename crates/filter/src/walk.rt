@@ -11,8 +11,7 @@ ghost use Rattle.filter.specs.Walk.{each, nearestFirst, visited, walk as
 ghost use Rattle.filter.specs.Rows.{rows, Ready, Went};
 ghost use Rattle.filter.specs.Passable.{Passable};
 use crate::candidate::visit;
-use crate::discard::enough;
-use crate::discard::nearer_around;
+use crate::discard::hides_box;
 use crate::nearest::nearest;
 use crate::seen::Seen;
 use grid::place::Place;
@@ -83,7 +82,7 @@ pub fn walk(
         let at = row[i];
         let e = n.entries[at];
         i += 1;
-        if enough(nearer_around(xs, ys, so_far.candidates, e.rect, q), k) {
+        if hides_box(xs, ys, so_far.candidates, e.rect, q, k) {
             continue;
         }
         let child = e.reference;

@@ -83,20 +83,15 @@ impl Rect {
         self.x.gap_square(q.x) + self.y.gap_square(q.y)
     }
 
-    // The corner test: all four corners are nearer to c than to q.
+    // The corner test: all four corners are nearer to c than to q. All four are compared: no branch has to guess which one fails.
     pub fn corners_nearer(self, c: Place, q: Place) -> bool
         requires { ⌜ RectOnGrid self × PlaceOnGrid c × PlaceOnGrid q ⌝ }
         ensures { λ r. ⌜ r ≡ cornersNearer self c q ⌝ }
     {
-        if !corner_nearer(self.x.low, self.y.low, c, q) {
-            return false;
-        }
-        if !corner_nearer(self.x.low, self.y.high, c, q) {
-            return false;
-        }
-        if !corner_nearer(self.x.high, self.y.low, c, q) {
-            return false;
-        }
-        corner_nearer(self.x.high, self.y.high, c, q)
+        let first = corner_nearer(self.x.low, self.y.low, c, q);
+        let second = corner_nearer(self.x.low, self.y.high, c, q);
+        let third = corner_nearer(self.x.high, self.y.low, c, q);
+        let fourth = corner_nearer(self.x.high, self.y.high, c, q);
+        first & (second & (third & fourth))
     }
 }

@@ -33,8 +33,7 @@ use borrow.Fn.PlainCycle.{Measures, is, falls, and}
 use Rattle.filter.proofs.walk.walk.Reads as walk
 use Rattle.filter.proofs.walk.walk.Kinds as walk-kinds
 use Rattle.filter.proofs.walk.+walk.Lts-walk as walk-lts
-use Rattle.filter.proofs.discard.enough.Reads as enough-reads
-use Rattle.filter.proofs.discard.nearer_around.Reads as nearer-around-reads
+use Rattle.filter.proofs.discard.hides_box.Reads as hides-box-reads
 use Rattle.filter.proofs.nearest.nearest.Reads as nearest-reads
 use Rattle.filter.proofs.seen.Seen.opening.Reads as opening-reads
 use Rattle.filter.proofs.walk.visit_leaf.Reads as visit-leaf-reads
@@ -61,10 +60,8 @@ knows t = (
   visit-leaf-reads.Learnt,
   nearest-reads.Asked,
   nearest-reads.Learnt,
-  nearer-around-reads.Asked,
-  nearer-around-reads.Learnt,
-  enough-reads.Asked,
-  enough-reads.Learnt,
+  hides-box-reads.Asked,
+  hides-box-reads.Learnt,
   walk-below t,
   walk.Post,
 )
@@ -203,20 +200,17 @@ walk-element-copy-out-e t c =
 walk-add-i : (t : ℕ) → walk-lts.Need-add-i (knows t) (walk-at t) walk.Post walk-Inv-loop walk-μ-loop
 walk-add-i t c = search needs
 
-walk-nearer-around-requires : (t : ℕ) → walk-lts.Need-nearer-around-requires (knows t) (walk-at t) walk.Post walk-Inv-loop walk-μ-loop
-walk-nearer-around-requires t c κs =
+walk-hides-box-requires : (t : ℕ) → walk-lts.Need-hides-box-requires (knows t) (walk-at t) walk.Post walk-Inv-loop walk-μ-loop
+walk-hides-box-requires t c κs =
     let x = turn-here t (c .before .before .before) in
     ((x .kept .room .xs, x .kept .room .ys), (x .good .0, x .ready .grid, kept-grid (x .kept)))
-
-walk-enough-requires : (t : ℕ) → walk-lts.Need-enough-requires (knows t) (walk-at t) walk.Post walk-Inv-loop walk-μ-loop
-walk-enough-requires t c κs = search needs
 
 walk-loop-less : (t : ℕ) → walk-lts.Need-loop-less (knows t) (walk-at t) walk.Post walk-Inv-loop walk-μ-loop
 walk-loop-less t c = search needs
 
 walk-loop-again : (t : ℕ) → walk-lts.Need-loop-again (knows t) (walk-at t) walk.Post walk-Inv-loop walk-μ-loop
 walk-loop-again t c =
-    let w = c .before .before .before .before .before .before in
+    let w = c .before .before .before .before .before in
     let x = turn-here t w in
     let l = w .before in
     let o = l .before .before .before in
@@ -225,7 +219,7 @@ walk-loop-again t c =
     let e = getD (o .before .node-at .result .entries) (getD (l .before .nearest .result) (l .loop .i) 0) blankEntry in
     let r = rows (l .loop .numbers) (l .loop .xs) (l .loop .ys) (l .loop .squares) in (
       omega (arith, w .loop-test .taken),
-      x .done _ _ (rw (enter-hidden e (a .q) (a .k) r (l .loop .so-far) _ _ (c .before .before .nearer-around .ensures) (c .before .enough .ensures) (walkOf (a .q) (a .k) (a .level - 1) (a .table .now)) (c .if2 .taken)) (noted-same (x .kept))),
+      x .done _ _ (rw (enter-hidden e (a .q) (a .k) r (l .loop .so-far) _ (c .before .hides-box .ensures) (walkOf (a .q) (a .k) (a .level - 1) (a .table .now)) (c .if2 .taken)) (noted-same (x .kept))),
       l .loop .inv .2,
       l .loop .inv .3,
       l .loop .inv .4,
@@ -235,7 +229,7 @@ walk-loop-again t c =
 walk-walk-requires : (t : ℕ) → walk-lts.Need-walk-requires (knows t) (walk-at t) walk.Post walk-Inv-loop walk-μ-loop
 walk-walk-requires t c κs =
     let f = c .before .before .before .before in
-    let w = f .before .before .before .before .before .before in
+    let w = f .before .before .before .before .before in
     let x = turn-here t w in
     let l = w .before in
     let o = l .before .before .before in
@@ -244,7 +238,7 @@ walk-walk-requires t c κs =
     let e = getD (o .before .node-at .result .entries) (getD (l .before .nearest .result) (l .loop .i) 0) blankEntry in
     let r = rows (l .loop .numbers) (l .loop .xs) (l .loop .ys) (l .loop .squares) in (
       omega (arith, s .pre .0, l .before .before .if1 .left),
-      ((s .pre .1 .0 .0, x .good .1), enter-ready e (a .q) (a .k) r (l .loop .so-far) _ _ (f .before .before .nearer-around .ensures) (f .before .enough .ensures) (walkOf (a .q) (a .k) (a .level - 1) (a .table .now)) (f .if2 .left) (x .ready)),
+      ((s .pre .1 .0 .0, x .good .1), enter-ready e (a .q) (a .k) r (l .loop .so-far) _ (f .before .hides-box .ensures) (walkOf (a .q) (a .k) (a .level - 1) (a .table .now)) (f .if2 .left) (x .ready)),
     )
 
 walk-loop-less-2 : (t : ℕ) → walk-lts.Need-loop-less-2 (knows t) (walk-at t) walk.Post walk-Inv-loop walk-μ-loop
@@ -254,7 +248,7 @@ walk-loop-again-2 : (t : ℕ) → walk-lts.Need-loop-again-2 (knows t) (walk-at 
 walk-loop-again-2 t c =
     let v = c .before .before .before .before .before in
     let f = v .before .before .before .before .before in
-    let w = f .before .before .before .before .before .before in
+    let w = f .before .before .before .before .before in
     let l = w .before in
     let o = l .before .before .before in
     let s = o .before .before .before in
@@ -262,7 +256,7 @@ walk-loop-again-2 t c =
     let e = getD (o .before .node-at .result .entries) (getD (l .before .nearest .result) (l .loop .i) 0) blankEntry in
     let r = rows (l .loop .numbers) (l .loop .xs) (l .loop .ys) (l .loop .squares) in (
       omega (arith, w .loop-test .taken),
-      turn-here t w .done _ _ (rw (enter-open e (a .q) (a .k) r (l .loop .so-far) _ _ (f .before .before .nearer-around .ensures) (f .before .enough .ensures) (walkOf (a .q) (a .k) (a .level - 1) (a .table .now)) (f .if2 .left)) (v .walk .ensures)),
+      turn-here t w .done _ _ (rw (enter-open e (a .q) (a .k) r (l .loop .so-far) _ (f .before .hides-box .ensures) (walkOf (a .q) (a .k) (a .level - 1) (a .table .now)) (f .if2 .left)) (v .walk .ensures)),
       v .walk .kept .1 .1 .1 .1 .1 .0 ∙ l .loop .inv .2,
       v .walk .kept .1 .1 .1 .1 .1 .1 .0 ∙ l .loop .inv .3,
       v .walk .kept .1 .1 .1 .1 .1 .1 .1 .0 ∙ l .loop .inv .4,
@@ -317,8 +311,7 @@ pub +walk-spec : {M : Type 1} → statement M
     (walk-mul-e t)
     (walk-element-copy-out-e t)
     (walk-add-i t)
-    (walk-nearer-around-requires t)
-    (walk-enough-requires t)
+    (walk-hides-box-requires t)
     (walk-loop-less t)
     (walk-loop-again t)
     (walk-walk-requires t)

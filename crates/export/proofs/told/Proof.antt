@@ -1,0 +1,48 @@
+-- `export::told` meets its contract: the three counts are written one after the other, where there is room. Assumes nothing.
+use native.Mathlib.Omega.{arith}
+use lib.ListN.{length-set}
+use borrow.Author.Needs.{needs}
+use Rattle.export.proofs.Telling.{counts-none, counts-three}
+use Rattle.export.proofs.told.Statement.{statement}
+use Rattle.export.proofs.told.Tie as tie
+
+number-given-requires : tie.Need-number-given-requires
+number-given-requires c κs = search needs
+
+returns : tie.Need-returns
+returns c =
+    let a = c .before .before .before .args in
+    (c .number-given .ensures, counts-none _ (a .counts .now) (c .before .if1 .taken))
+
+slice-write-counts : tie.Need-slice-write-counts
+slice-write-counts c = search needs
+
+slice-write-counts-2 : tie.Need-slice-write-counts-2
+slice-write-counts-2 c = simp length-set (omega arith)
+
+slice-write-counts-3 : tie.Need-slice-write-counts-3
+slice-write-counts-3 c = search needs
+
+number-given-requires-2 : tie.Need-number-given-requires-2
+number-given-requires-2 c κs = search needs
+
+same-length : tie.Need-same-length
+same-length c = search needs
+
+returns-2 : tie.Need-returns-2
+returns-2 c =
+    let s = c .before .before .before in
+    (c .number-given2 .ensures, counts-three (record { n = s .args .a .n; m = s .args .a .m; o = s .args .a .o }) (s .args .counts .now) (c .before .if1 .left))
+
+pub told-spec : {M : Type 1} → statement M
+told-spec =
+    tie.close
+    (tie.spec
+    number-given-requires
+    returns
+    slice-write-counts
+    slice-write-counts-2
+    slice-write-counts-3
+    number-given-requires-2
+    same-length
+    returns-2)

@@ -1,0 +1,27 @@
+-- A query for C and Rust programs: its answer is a number, and the three counts go to a lent row.
+use Prim.Native.Nat.{ℕ}
+use mathlib.Core.Path.{_≡_}
+use mathlib.Core.Bool.{cond}
+use mathlib.Core.List.{List, [], _∷_}
+use lib.Dec.{ltb}
+use lib.IntN.{ℤ}
+use lib.ListN.{length}
+use Rattle.grid.specs.Site.{Site}
+use Rattle.table.specs.Words.{Words}
+use Rattle.table.specs.Given.{numberGiven}
+use Rattle.filter.specs.Query.{Counts, laidOver}
+use Rattle.filter.specs.Rows.{Rows}
+use Rattle.desk.specs.Calls.{afterQuery}
+use Rattle.desk.specs.Lent.{recordsIn, rowsAfter}
+
+-- n, m and o laid over the front of the lent row; a row of fewer than three places gets nothing
+abbrev pub countsLaid : Counts → List ℕ → List ℕ
+countsLaid c row = cond (ltb (length row) 3) row (laidOver (c .n ∷ c .m ∷ c .o ∷ []) row)
+
+-- what the caller is told, and what each lent row holds afterwards
+pub record Told (ws : Words) (q : Site) (k : ℤ) (before after : Rows) (old new row told : List ℕ) (r : ℕ) : Type 0 where
+  pub given : r ≡ numberGiven (afterQuery ws q k (recordsIn before) old .given)
+  pub rows : after ≡ rowsAfter ws q k before old
+  pub candidates : recordsIn after ≡ afterQuery ws q k (recordsIn before) old .candidates
+  pub answers : new ≡ afterQuery ws q k (recordsIn before) old .answers
+  pub counts : told ≡ countsLaid (afterQuery ws q k (recordsIn before) old .counts) row
