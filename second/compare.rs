@@ -1,12 +1,16 @@
 //! Compares the proved library with the second implementation, word by word.
 //! `compare check|changes|queries SEEDS` runs that many seeds and says how many calls agreed; `compare bench` measures.
+//! `compare sheets SEEDS [PROGRAM]` runs the built program on random whole sheets.
 //! Built with `--cfg query` once the library exports the query.
 
 mod check;
+mod flat;
 mod library;
-#[cfg(query)]
+mod programs;
 mod query;
 mod random;
+mod sheet;
+mod sheets;
 mod table;
 
 #[cfg(query)]
@@ -23,9 +27,10 @@ fn main() {
         Some("changes") => changes(seeds),
         #[cfg(query)]
         Some("queries") => queries(seeds),
+        Some("sheets") => programs::sheets(seeds, args.get(3).map_or("target/bin/ullagreth", String::as_str)),
         Some("bench") => bench(),
         _ => {
-            eprintln!("usage: compare check|changes|queries SEEDS, or compare bench");
+            eprintln!("usage: compare check|changes|queries SEEDS, compare sheets SEEDS [PROGRAM], or compare bench");
             std::process::exit(2);
         }
     }

@@ -3,6 +3,6 @@ ghost use Rattle.grid.specs.Word.{IsWord};
 ghost use Rattle.order.specs.Lists.{All};
 
 // Each word fits 32 bits. There is nothing to do for it: a caller's proof learns it here.
-pub(crate) fn are_words(words: &[i32])
+pub fn are_words(words: &[i32])
     ensures { λ _. ⌜ All IsWord (now (words .entry)) ⌝ }
 {}

@@ -1,0 +1,84 @@
+-- What a line keeps: a table that passes the check passes it afterwards, and the answer list is as long as it was; and how long its output line is at most. Job by job. Assumes nothing.
+use Prim.Native.Nat.{ℕ, _+_, _≤_}
+use mathlib.Core.Path.{_≡_, refl, ap, _∙_}
+use mathlib.Core.List.{List, []}
+use native.Mathlib.Omega.{arith}
+use lib.ListN.{length, length-take}
+use Rattle.grid.specs.Word.{natOf}
+use Rattle.table.specs.declared.given.Given.{Given}
+use Rattle.table.specs.Given.{numberGiven}
+use Rattle.filter.specs.Query.{answersFound, laidOver}
+use Rattle.desk.specs.Refusals.{site, queryGives}
+use Rattle.desk.specs.Calls.{ifDone, Queried, afterQuery}
+use Rattle.desk.specs.Demands.{Passing, enrol, withdraw}
+use Rattle.desk.proofs.Given.{by-given}
+use Rattle.desk.proofs.Granted.{query-granted}
+use Rattle.desk.proofs.Kept.{call-kept}
+use Rattle.desk.proofs.Finds.{laid-length}
+use Rattle.sheet.specs.Bytes.{Bytes}
+use Rattle.sheet.specs.declared.job.Job.{Job}
+use Rattle.sheet.specs.declared.job.Job.the-variants.{Enrol, Withdraw, Query, MissingK, Misshapen}
+use Rattle.sheet.specs.Job.{jobOf}
+use Rattle.sheet.specs.Output.{letterOf}
+use Rattle.sheet.proofs.Decimal.{line-room}
+use Rattle.clerk.specs.Sheet.{State, granted, ranJob, ranLine, lineOutput}
+use Rattle.clerk.specs.Running.{longestLine}
+
+-- ---- the table
+
+job-passing : (st : State) → Passing (st .words) → (j : Job) → Passing (ranJob st j .state .words)
+job-passing st p (Enrol n a b) = call-kept p (enrol n (site a b)) .passing
+job-passing st p (Withdraw n) = call-kept p (withdraw n) .passing
+job-passing st p (Query a b k) = p
+job-passing st p MissingK = p
+job-passing st p Misshapen = p
+
+pub line-passing : (st : State) → Passing (st .words) → (line : Bytes) → Passing (ranLine st line .state .words)
+unfolding ranLine
+line-passing st p line = job-passing st p (jobOf line)
+
+-- ---- the answer list
+
+job-answers : (st : State) (j : Job) → length (ranJob st j .state .answers) ≡ length (st .answers)
+unfolding afterQuery
+job-answers st (Enrol n a b) = refl
+job-answers st (Withdraw n) = refl
+job-answers st (Query a b k) =
+    let q = site a b in
+    let room = length (st .candidates) in
+    let old = st .answers in
+    let found = answersFound (st .words) q (natOf k) in
+    by-given (queryGives (st .words) q k room (length old))
+    (λ e. ap (λ g. length (ifDone g (laidOver found old) old)) e ∙ laid-length found old (query-granted (st .words) q k room (length old) e .1))
+    (λ e. ap (λ g. length (ifDone g (laidOver found old) old)) e)
+    (λ p. ap length (p .done (laidOver found old) old))
+job-answers st MissingK = refl
+job-answers st Misshapen = refl
+
+pub line-answers : (st : State) (line : Bytes) → length (ranLine st line .state .answers) ≡ length (st .answers)
+unfolding ranLine
+line-answers st line = job-answers st (jobOf line)
+
+-- ---- the output line
+
+if-most : (g : Given) (xs : List ℕ) → length (ifDone g xs []) ≤ length xs
+if-most g xs = by-given g (λ e. rw e (omega arith)) (λ e. rw e (omega arith)) (λ p. rw (p .done xs []) (omega arith))
+
+-- three counts, and no more numbers than the answer list has
+granted-most : (r : Queried) → length (granted r) ≤ 3 + length (r .answers)
+granted-most r = omega (arith, length-take (r .counts .n) (r .answers))
+
+job-more : (st : State) (j : Job) → length (ranJob st j .more) ≤ 3 + length (st .answers)
+job-more st (Enrol n a b) = omega arith
+job-more st (Withdraw n) = omega arith
+job-more st (Query a b k) =
+    let r = afterQuery (st .words) (site a b) k (st .candidates) (st .answers) in
+    omega (arith, if-most (r .given) (granted r), granted-most r, job-answers st (Query a b k))
+job-more st MissingK = omega arith
+job-more st Misshapen = omega arith
+
+pub line-most : (number : ℕ) (st : State) (line : Bytes) → length (lineOutput number st line) ≤ longestLine (length (st .answers))
+unfolding lineOutput ranLine
+line-most number st line =
+    let j = jobOf line in
+    omega (arith, line-room number (letterOf j) (numberGiven (ranJob st j .given)) (ranJob st j .more), job-more st j)

@@ -1,0 +1,106 @@
+// One line of the sheet: its job is done, and its output line is laid into a lent buffer from a place on.
+// The sheet's table passes the check by the invariant of the loop over the lines, so no line pays for a check.
+ghost use Prim.Native.Nat.{_+_, _≤_};
+ghost use lib.ListN.{length};
+ghost use Rattle.filter.specs.Rows.{rows};
+ghost use Rattle.clerk.specs.Running.{lent, Passes, longestLine, RanJob, RanOne};
+use desk::enrol::enrol_passing;
+use desk::query::query_passing;
+use desk::withdraw::withdraw_passing;
+use sheet::job::Job;
+use sheet::job::job_of;
+use sheet::output::put_answers;
+use sheet::output::put_line;
+use table::given::Given;
+use table::given::number_given;
+
+// A query: its counts and its answers follow if it is granted.
+fn run_query(
+    x: i32,
+    y: i32,
+    k: i32,
+    number: u64,
+    table: &[i32],
+    numbers: &mut [i32],
+    xs: &mut [i32],
+    ys: &mut [i32],
+    squares: &mut [u64],
+    answers: &mut [u32],
+    out: &mut [u8],
+    at: usize,
+) -> usize
+    requires { ⌜ Passes (now table) × (at + longestLine (length (now answers)) ≤ length (now out)) ⌝ }
+    ensures { λ r.
+        ⌜
+        RanJob number (Job.Query x y k)
+        (lent (now (table .entry))
+        (rows (now (numbers .entry)) (now (xs .entry)) (now (ys .entry)) (now (squares .entry)))
+        (now (answers .entry)))
+        (lent (now (table .entry))
+        (rows (now (numbers .exit)) (now (xs .exit)) (now (ys .exit)) (now (squares .exit)))
+        (now (answers .exit)))
+        (now (out .entry)) at (now (out .exit)) r
+        ⌝ }
+{
+    let r = query_passing(table, x, y, k, numbers, xs, ys, squares, answers);
+    let given = r.given;
+    let Given::Done = given else {
+        return put_line(out, at, number, b'Q', number_given(given));
+    };
+    put_answers(out, at, number, r.n, r.m, r.o, answers)
+}
+
+// Line `number` of the sheet. It gives back the place behind the bytes of its output line.
+pub fn run_line(
+    line: &[u8],
+    number: u64,
+    table: &mut [i32],
+    numbers: &mut [i32],
+    xs: &mut [i32],
+    ys: &mut [i32],
+    squares: &mut [u64],
+    answers: &mut [u32],
+    out: &mut [u8],
+    at: usize,
+) -> usize
+    requires { ⌜ Passes (now table) × (at + longestLine (length (now answers)) ≤ length (now out)) ⌝ }
+    ensures { λ r.
+        ⌜
+        RanOne number (now (line .entry))
+        (lent (now (table .entry))
+        (rows (now (numbers .entry)) (now (xs .entry)) (now (ys .entry)) (now (squares .entry)))
+        (now (answers .entry)))
+        (lent (now (table .exit))
+        (rows (now (numbers .exit)) (now (xs .exit)) (now (ys .exit)) (now (squares .exit)))
+        (now (answers .exit)))
+        (now (out .entry)) at (now (out .exit)) r
+        ⌝ }
+{
+    let job = job_of(line);
+    match job {
+        Job::Enrol(n, x, y) => {
+            let given = enrol_passing(table, n, x, y);
+            put_line(out, at, number, b'E', number_given(given))
+        }
+        Job::Withdraw(n) => {
+            let given = withdraw_passing(table, n);
+            put_line(out, at, number, b'W', number_given(given))
+        }
+        Job::Query(x, y, k) => run_query(
+            x,
+            y,
+            k,
+            number,
+            table,
+            numbers,
+            xs,
+            ys,
+            squares,
+            answers,
+            out,
+            at,
+        ),
+        Job::MissingK => put_line(out, at, number, b'Q', number_given(Given::NoSuchK)),
+        Job::Misshapen => put_line(out, at, number, b'?', number_given(Given::Misshapen)),
+    }
+}

@@ -1,0 +1,88 @@
+// Lines of the sheet, one after the other, as many as the output buffer has room for.
+ghost use mathlib.Core.Path.{_≡_};
+ghost use Prim.Native.Nat.{_+_, _≤_, _<_, _^_};
+ghost use lib.ListN.{length};
+ghost use Rattle.filter.specs.Rows.{rows};
+ghost use Rattle.clerk.specs.Running.{lent, Passes, longestLine, RanLines};
+use crate::line::run_line;
+use desk::words::are_words;
+use sheet::lines::line_at;
+use sheet::lines::next_at;
+
+// How far the sheet has been run: the place where the next line starts, its number, and how many bytes stand in the buffer.
+pub struct Run {
+    pub at: usize,
+    pub number: u64,
+    pub filled: usize,
+}
+
+// The bytes of one output line, at most: its head, three counts, the line feed, and a tab and digits for each answer.
+pub fn longest_line(places: usize) -> usize
+    requires { ⌜ longestLine places < 2 ^ 64 ⌝ }
+    ensures { λ r. ⌜ r ≡ longestLine places ⌝ }
+{
+    107 + 21 * places
+}
+
+// Runs lines from a place of the sheet on, until its end or until the buffer might not hold another output line.
+pub fn run_lines(
+    sheet: &[u8],
+    at: usize,
+    number: u64,
+    table: &mut [i32],
+    numbers: &mut [i32],
+    xs: &mut [i32],
+    ys: &mut [i32],
+    squares: &mut [u64],
+    answers: &mut [u32],
+    out: &mut [u8],
+) -> Run
+    requires { ⌜
+        Passes (now table) × (at ≤ length (now sheet)) × (number + length (now sheet) < 2 ^ 64)
+        × (longestLine (length (now answers)) ≤ length (now out))
+        ⌝ }
+    ensures { λ r.
+        ⌜
+        RanLines (now (sheet .entry)) at number
+        (lent (now (table .entry))
+        (rows (now (numbers .entry)) (now (xs .entry)) (now (ys .entry)) (now (squares .entry)))
+        (now (answers .entry)))
+        (lent (now (table .exit))
+        (rows (now (numbers .exit)) (now (xs .exit)) (now (ys .exit)) (now (squares .exit)))
+        (now (answers .exit)))
+        (now (out .entry)) (now (out .exit)) r
+        ⌝ }
+{
+    // Every call keeps the table well formed, and its words within 32 bits, as they are here.
+    are_words(table);
+    let need = longest_line(answers.len());
+    let mut run = Run {
+        at,
+        number,
+        filled: 0,
+    };
+    while run.at < sheet.len() {
+        if out.len() < run.filled + need {
+            return run;
+        }
+        let line = line_at(sheet, run.at);
+        let filled = run_line(
+            line,
+            run.number,
+            table,
+            numbers,
+            xs,
+            ys,
+            squares,
+            answers,
+            out,
+            run.filled,
+        );
+        run = Run {
+            at: next_at(sheet, run.at),
+            number: run.number + 1,
+            filled,
+        };
+    }
+    run
+}
