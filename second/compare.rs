@@ -1,15 +1,18 @@
 //! Compares the proved library with the second implementation, word by word.
 //! `compare check|changes|queries SEEDS` runs that many seeds and says how many calls agreed; `compare bench` measures.
-//! Built with `--cfg query` once the library exports the query.
+//! `compare sheets SEEDS [PROGRAM]` runs the built program on random whole sheets.
 
 mod check;
+mod flat;
 mod library;
-#[cfg(query)]
+mod programs;
 mod query;
 mod random;
+mod sheet;
+mod sheets;
 mod table;
 
-#[cfg(query)]
+use flat::Flat;
 use library::Lists;
 use random::Random;
 use std::time::Instant;
@@ -21,11 +24,11 @@ fn main() {
     match args.get(1).map(String::as_str) {
         Some("check") => checks(seeds),
         Some("changes") => changes(seeds),
-        #[cfg(query)]
-        Some("queries") => queries(seeds),
+                Some("queries") => queries(seeds),
+        Some("sheets") => programs::sheets(seeds, args.get(3).map_or("target/bin/ullagreth", String::as_str)),
         Some("bench") => bench(),
         _ => {
-            eprintln!("usage: compare check|changes|queries SEEDS, or compare bench");
+            eprintln!("usage: compare check|changes|queries SEEDS, compare sheets SEEDS [PROGRAM], or compare bench");
             std::process::exit(2);
         }
     }
@@ -142,7 +145,6 @@ fn changes(seeds: u64) {
 
 // ---- queries: answers, candidates, counts, and every word of both lists
 
-#[cfg(query)]
 fn queries(seeds: u64) {
     let mut calls = 0u64;
     for seed in 0..seeds {
@@ -224,18 +226,17 @@ fn bench() {
     });
     println!("check of a full table: {:.1} microseconds", 1e6 * s / turns as f64);
 
-    #[cfg(query)]
-    bench_queries(&mut r);
+        bench_queries(&mut r);
 }
 
-#[cfg(query)]
 fn bench_queries(r: &mut Random) {
-    let mut t = Table::new();
+    // The scan has no tree: it keeps the holders as a flat list, in the order in which they came.
+    let (mut t, mut flat) = (Table::new(), Flat::default());
     while t.points < 400 {
-        let (x, y) = r.place(0);
-        t.enrol(r.between(1, 9999) as i32, x, y);
+        let ((x, y), number) = (r.place(0), r.between(1, 9999) as i32);
+        assert_eq!(t.enrol(number, x, y), flat.enrol(number, x, y));
     }
-    let (w, all) = (t.words(), t.stations());
+    let w = t.words();
     let sites: Vec<(i32, i32)> = (0..10_000).map(|_| r.place(0)).collect();
     let mut l = Lists::marked(500, 500);
     let mut sum = 0u64;
@@ -248,7 +249,7 @@ fn bench_queries(r: &mut Random) {
     let mut other = 0u64;
     let scanned = best(3, || {
         for &(x, y) in &sites {
-            other += query::scan(&all, [i64::from(x), i64::from(y)], 5).len() as u64;
+            other += flat.query([i64::from(x), i64::from(y)], 5).len() as u64;
         }
     });
     assert_eq!(sum, other);

@@ -7,7 +7,6 @@ extern "C" {
 }
 
 /// A query of the library: the table, x, y and k, the four rows of the candidate list, the answer list, the counts.
-#[cfg(query)]
 type Query = unsafe extern "C" fn(
     *const i32,
     usize,
@@ -28,7 +27,6 @@ type Query = unsafe extern "C" fn(
     usize,
 ) -> u8;
 
-#[cfg(query)]
 extern "C" {
     fn ullagreth_query(
         table: *const i32,
@@ -82,7 +80,6 @@ pub fn withdraw(table: &mut [i32], number: i32) -> i32 {
     i32::from(unsafe { ullagreth_withdraw(table.as_mut_ptr(), table.len(), number) })
 }
 
-#[cfg(query)]
 /// The candidate list and the answer list that a query is lent, and its three counts.
 #[derive(Clone, PartialEq, Eq, Debug)]
 pub struct Lists {
@@ -94,7 +91,6 @@ pub struct Lists {
     pub counts: [u64; 3],
 }
 
-#[cfg(query)]
 impl Lists {
     /// So many candidates and answers, each word with a mark that no query writes.
     pub fn marked(candidates: usize, answers: usize) -> Lists {
@@ -109,18 +105,15 @@ impl Lists {
     }
 }
 
-#[cfg(query)]
 pub fn query(table: &[i32], x: i32, y: i32, k: i32, l: &mut Lists) -> i32 {
     asked(ullagreth_query, table, x, y, k, l)
 }
 
 /// Only for a table that passes the check: it is not checked again.
-#[cfg(query)]
 pub fn query_passing(table: &[i32], x: i32, y: i32, k: i32, l: &mut Lists) -> i32 {
     asked(ullagreth_query_passing, table, x, y, k, l)
 }
 
-#[cfg(query)]
 fn asked(query: Query, table: &[i32], x: i32, y: i32, k: i32, l: &mut Lists) -> i32 {
     let given = unsafe {
         query(

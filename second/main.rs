@@ -1,23 +1,33 @@
 //! `second walk < sheet` and `second scan < sheet` answer a job sheet; `second selftest` tries the second program against itself;
-//! `second tables` and `second tables-expected` make the input of the test program `tables` and what it must print.
+//! `second tables` and `second tables-expected` make the input of the test program `tables` and what it must print, `second edges` and
+//! `second edges-expected` those of `edges`; `second sheet SEED` prints a random sheet; `second bench PROGRAM FOLDER ROUNDS` measures a whole sheet.
 
 mod check;
 mod damage;
+mod edges;
+mod flat;
+mod programs;
 mod query;
 mod random;
 mod sheet;
+mod sheets;
 mod table;
 
 use std::io::{Read, Write};
 
 fn main() {
-    let mode = std::env::args().nth(1).unwrap_or_default();
+    let argument = |i| std::env::args().nth(i).unwrap_or_default();
+    let mode = argument(1);
     let by = match mode.as_str() {
         "walk" => sheet::By::Walk,
         "scan" => sheet::By::Scan,
         "selftest" => return selftest(),
         "tables" => return print!("{}", damage::input()),
         "tables-expected" => return print!("{}", damage::expected()),
+        "sheet" => return say(&sheets::sheet(argument(2).parse().expect("a seed"))),
+        "bench" => return programs::bench(&argument(2), &argument(0), &argument(3), argument(4).parse().expect("rounds")),
+        "edges" => return say(&edges::input()),
+        "edges-expected" => return say(&edges::expected()),
         _ => {
             eprintln!("usage: second walk|scan < sheet, or second selftest");
             std::process::exit(2);
@@ -25,7 +35,11 @@ fn main() {
     };
     let mut bytes = Vec::new();
     std::io::stdin().read_to_end(&mut bytes).expect("standard input");
-    std::io::stdout().write_all(&sheet::run(&bytes, by)).expect("standard output");
+    say(&sheet::run(&bytes, by));
+}
+
+fn say(bytes: &[u8]) {
+    std::io::stdout().write_all(bytes).expect("standard output");
 }
 
 /// The walk's answers are those of every pair, and each table on the way is well formed.

@@ -1,9 +1,10 @@
 //! The job sheet of document 01, in the second implementation.
 
-use crate::query::{scan, walk, Found};
+use crate::flat::Flat;
+use crate::query::{walk, Found};
 use crate::table::{on_grid, Table};
 
-/// How a query is answered: by the tree and the walk, or by a scan of every pair (m and o then stay 0).
+/// How a sheet is answered: by the tree and the walk, or with no tree at all, by a scan of every pair (m and o then stay 0).
 #[derive(Clone, Copy, PartialEq, Eq)]
 pub enum By {
     Walk,
@@ -45,48 +46,69 @@ fn job(line: &[u8]) -> Job {
     parsed.unwrap_or(Job::Misshapen)
 }
 
-pub fn run(sheet: &[u8], by: By) -> Vec<u8> {
-    if sheet.len() > 65_536 {
-        return b"0\t?\t12\n".to_vec();
+/// What stands behind the desk: the tree, or the flat list.
+trait Keeper {
+    fn enrol(&mut self, number: i32, x: i32, y: i32) -> i32;
+    fn withdraw(&mut self, number: i32) -> i32;
+    fn query(&self, q: [i64; 2], k: usize) -> Found;
+}
+
+impl Keeper for Table {
+    fn enrol(&mut self, number: i32, x: i32, y: i32) -> i32 {
+        Table::enrol(self, number, x, y)
     }
-    let mut out = Vec::new();
-    let mut t = Table::new();
+
+    fn withdraw(&mut self, number: i32) -> i32 {
+        Table::withdraw(self, number)
+    }
+
+    fn query(&self, q: [i64; 2], k: usize) -> Found {
+        walk(self, q, k)
+    }
+}
+
+impl Keeper for Flat {
+    fn enrol(&mut self, number: i32, x: i32, y: i32) -> i32 {
+        Flat::enrol(self, number, x, y)
+    }
+
+    fn withdraw(&mut self, number: i32) -> i32 {
+        Flat::withdraw(self, number)
+    }
+
+    fn query(&self, q: [i64; 2], k: usize) -> Found {
+        Found { answers: Flat::query(self, q, k), ..Found::default() }
+    }
+}
+
+pub fn run(sheet: &[u8], by: By) -> Vec<u8> {
+    match by {
+        By::Walk => run_with(sheet, Table::new()),
+        By::Scan => run_with(sheet, Flat::default()),
+    }
+}
+
+/// The lines of a sheet: a line feed at the end opens no further line.
+pub fn lines(sheet: &[u8]) -> Vec<&[u8]> {
     let mut lines: Vec<&[u8]> = sheet.split(|&b| b == b'\n').collect();
     if lines.last().is_some_and(|l| l.is_empty()) {
         lines.pop();
     }
-    // For the scan: every holder, kept beside the table.
-    let mut all: Vec<(i32, i64, i64)> = Vec::new();
-    for (i, line) in lines.iter().enumerate() {
+    lines
+}
+
+fn run_with<K: Keeper>(sheet: &[u8], mut keeper: K) -> Vec<u8> {
+    if sheet.len() > 65_536 {
+        return b"0\t?\t12\n".to_vec();
+    }
+    let mut out = Vec::new();
+    for (i, line) in lines(sheet).iter().enumerate() {
         let (letter, given, found) = match job(line) {
-            Job::Enrol(p, x, y) => {
-                let g = t.enrol(p, x, y);
-                if g == 0 {
-                    all.push((p, i64::from(x), i64::from(y)));
-                }
-                ('E', g, None)
-            }
-            Job::Withdraw(p) => {
-                let g = t.withdraw(p);
-                if g == 0 {
-                    all.retain(|s| s.0 != p);
-                }
-                ('W', g, None)
-            }
-            Job::Query(x, y, k) => {
-                if !on_grid(x) || !on_grid(y) {
-                    ('Q', 4, None)
-                } else if !(1..=16).contains(&k) {
-                    ('Q', 5, None)
-                } else {
-                    let q = [i64::from(x), i64::from(y)];
-                    let f = match by {
-                        By::Walk => walk(&t, q, k as usize),
-                        By::Scan => Found { answers: scan(&all, q, k as usize), ..Found::default() },
-                    };
-                    ('Q', 0, Some(f))
-                }
-            }
+            Job::Enrol(p, x, y) => ('E', keeper.enrol(p, x, y), None),
+            Job::Withdraw(p) => ('W', keeper.withdraw(p), None),
+            Job::Query(x, y, _) if !on_grid(x) || !on_grid(y) => ('Q', 4, None),
+            Job::Query(_, _, k) if !(1..=16).contains(&k) => ('Q', 5, None),
+            Job::Query(x, y, k) => ('Q', 0, Some(keeper.query([i64::from(x), i64::from(y)], k as usize))),
             Job::MissingK => ('Q', 5, None),
             Job::Misshapen => ('?', 11, None),
         };

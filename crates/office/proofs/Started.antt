@@ -1,0 +1,17 @@
+-- The empty table passes the check, and the line of a sheet too long has seven bytes. Assumes nothing.
+use mathlib.Core.Path.{_≡_, refl}
+use lib.ListN.{length}
+use Rattle.table.specs.Empty.{emptyTable}
+use Rattle.table.specs.Words.{Words}
+use Rattle.audit.proofs.EmptyTable.{empty-blank}
+use Rattle.audit.proofs.WellFormed.{empty-well-formed}
+use Rattle.sheet.specs.Output.{decimal, headOf, outputLine}
+use Rattle.clerk.specs.Sheet.{tooLongLine}
+use Rattle.clerk.specs.Running.{Passes}
+
+pub start-passes : {ws : Words} → ws ≡ emptyTable → Passes ws
+start-passes e = rw e (record { long = empty-blank .long; rules = empty-well-formed })
+
+pub too-long-length : length tooLongLine ≡ 7
+unfolding decimal headOf outputLine
+too-long-length = refl

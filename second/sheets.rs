@@ -1,0 +1,182 @@
+//! Random whole sheets: good and damaged lines, bytes at random, every length around 65,536, long runs of queries at one place.
+
+use crate::random::Random;
+
+/// The most bytes that a sheet has: one more is too long.
+pub const LONGEST: usize = 65_536;
+
+/// How many kinds of sheets there are; the seed picks one.
+const KINDS: u64 = 10;
+
+pub fn sheet(seed: u64) -> Vec<u8> {
+    let mut r = Random(9000 + seed);
+    let mut out = match seed % KINDS {
+        // Good lines, by each habit of places.
+        0 | 1 => mixed(&mut r, 0, seed / KINDS),
+        // Every fourth line damaged, then two of three.
+        2 => mixed(&mut r, 25, seed / KINDS + 1),
+        3 => mixed(&mut r, 65, seed / KINDS + 2),
+        4 => noise(&mut r),
+        5 => at_one_place(&mut r),
+        6 => short(&mut r),
+        // A byte less than the longest, the longest, a byte more, and far more.
+        7 => of_length(&mut r, [LONGEST - 1, LONGEST, LONGEST + 1, 300_000][(seed / KINDS % 4) as usize]),
+        8 => long_line(&mut r),
+        _ => full(&mut r, seed / KINDS),
+    };
+    // Without the last line feed, as often as with it; but not where the length is the point.
+    if seed % KINDS != 7 && seed % 2 == 0 && out.last() == Some(&b'\n') {
+        out.pop();
+    }
+    out
+}
+
+/// Lines that grow the table and shrink it, with queries; some damaged.
+fn mixed(r: &mut Random, damaged: u64, habit: u64) -> Vec<u8> {
+    let mut out = Vec::new();
+    let want = r.between(1, 24_000) as usize;
+    let growing = r.between(1, 4) as u64;
+    while out.len() < want {
+        let mut line = good_line(r, habit, 1 + r.0 % 6, growing);
+        if r.below(100) < damaged {
+            damage(r, &mut line);
+        }
+        out.extend(line);
+        out.push(b'\n');
+    }
+    out
+}
+
+/// One good line; now and then with a number out of range or without its k.
+fn good_line(r: &mut Random, habit: u64, queries: u64, growing: u64) -> Vec<u8> {
+    let (mut x, y) = r.place(habit);
+    if r.below(30) == 0 {
+        x = *pick(r, &[1_000_000, 1_000_001, -1_000_000, -1_000_001, 9_999_999]);
+    }
+    let mut number = r.between(1, 700);
+    if r.below(30) == 0 {
+        number = *pick(r, &[0, 1, 9_999, 10_000, -5, 9_999_999]);
+    }
+    if r.below(10) < queries {
+        let k = if r.below(15) == 0 { r.between(-1, 18) } else { r.between(1, 16) };
+        return match r.below(25) {
+            0 => format!("Q\t{x}\t{y}"),
+            1 => format!("Q\t{x}\t{y}\t"),
+            _ => format!("Q\t{x}\t{y}\t{k}"),
+        }
+        .into_bytes();
+    }
+    if r.below(5) < growing { format!("E\t{number}\t{x}\t{y}") } else { format!("W\t{number}") }.into_bytes()
+}
+
+fn pick<'a, T>(r: &mut Random, from: &'a [T]) -> &'a T {
+    &from[r.below(from.len() as u64) as usize]
+}
+
+/// Bytes that damage a line without leaving its grammar far behind, and some that do.
+fn some_byte(r: &mut Random) -> u8 {
+    match r.below(4) {
+        0 => *pick(r, b"EWQewq?\t\t-+0123456789"),
+        1 => *pick(r, b"\t\t\t-0 \r\0"),
+        2 => *pick(r, b"0123456789"),
+        _ => r.next() as u8,
+    }
+}
+
+fn damage(r: &mut Random, line: &mut Vec<u8>) {
+    for _ in 0..r.between(1, 2) {
+        let at = r.below(line.len() as u64 + 1) as usize;
+        match r.below(6) {
+            0 => line.insert(at, some_byte(r)),
+            1 if at < line.len() => {
+                line.remove(at);
+            }
+            2 if at < line.len() => line[at] = some_byte(r),
+            3 => line.truncate(at),
+            4 => line.push(*pick(r, b"\t\t0 \r\0x")),
+            _ => line[..].reverse(),
+        }
+    }
+}
+
+/// Bytes at random, of which many are line feeds, tabs, letters and digits.
+fn noise(r: &mut Random) -> Vec<u8> {
+    let feeds = r.between(2, 40) as u64;
+    (0..r.below(20_000)).map(|_| if r.below(feeds) == 0 { b'\n' } else { some_byte(r) }).collect()
+}
+
+/// Many stations at one place and a run of queries there: the output is far longer than the sheet.
+fn at_one_place(r: &mut Random) -> Vec<u8> {
+    let mut out = Vec::new();
+    let (x, y) = r.place(0);
+    let stations = *pick(r, &[9, 100, 499, 500, 501]);
+    for n in 0..stations {
+        out.extend(format!("E\t{}\t{x}\t{y}\n", 9999 - 7 * n).into_bytes());
+    }
+    let k = r.between(1, 16);
+    for _ in 0..r.between(30, 300) {
+        out.extend(format!("Q\t{x}\t{y}\t{k}\n").into_bytes());
+    }
+    out
+}
+
+/// Up to five bytes: the empty sheet, an empty line, a letter.
+fn short(r: &mut Random) -> Vec<u8> {
+    (0..r.below(6)).map(|_| *pick(r, b"\n\n\tEWQ1\r\0")).collect()
+}
+
+/// A sheet of exactly so many bytes.
+fn of_length(r: &mut Random, length: usize) -> Vec<u8> {
+    let mut out = Vec::new();
+    while out.len() < length {
+        out.extend(good_line(r, 4, 1, 4));
+        out.push(b'\n');
+    }
+    out.truncate(length);
+    out
+}
+
+/// A few good lines, and among them one of thousands of bytes.
+fn long_line(r: &mut Random) -> Vec<u8> {
+    let mut out = mixed(r, 10, 1);
+    let b = *pick(r, b"\t0-EQ \xff");
+    out.extend(b"Q\t0\t0\t");
+    out.extend(vec![b; r.between(1, 30_000) as usize]);
+    out.extend(b"\nQ\t0\t0\t3\n");
+    out
+}
+
+/// Past 500 points and down again, with queries at the full table.
+fn full(r: &mut Random, habit: u64) -> Vec<u8> {
+    let mut out = Vec::new();
+    let mut number = 0;
+    for _ in 0..520 {
+        number += r.between(1, 3);
+        let (x, y) = r.place(habit);
+        out.extend(format!("E\t{number}\t{x}\t{y}\n").into_bytes());
+    }
+    for _ in 0..400 {
+        let query = r.below(4) == 0;
+        out.extend(good_line(r, habit, if query { 10 } else { 0 }, 1));
+        out.push(b'\n');
+    }
+    out
+}
+
+/// 400 stations and as many queries as a sheet has room for, k 5, all at random sites: what `tools/bench` measures with.
+pub fn bench() -> Vec<u8> {
+    let mut r = Random(42);
+    let mut out = Vec::new();
+    for number in 1..=400 {
+        let (x, y) = r.place(0);
+        out.extend(format!("E\t{number}\t{x}\t{y}\n").into_bytes());
+    }
+    loop {
+        let (x, y) = r.place(0);
+        let line = format!("Q\t{x}\t{y}\t5\n").into_bytes();
+        if out.len() + line.len() > LONGEST {
+            return out;
+        }
+        out.extend(line);
+    }
+}
