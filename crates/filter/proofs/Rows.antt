@@ -5,11 +5,9 @@ use native.Mathlib.Numerals.{add-one}
 use mathlib.Core.Path.{_≡_, refl, sym, ap, _∙_}
 use mathlib.Core.Bool.{Bool, true}
 use mathlib.Core.List.{List, [], _∷_, _++_, map, map-append, append-assoc}
-use lib.Dec.{leb}
 use lib.IntN.{pos}
 use lib.ListN.{length, getD, drop, set, length-append, length-drop, length-map, List·getD-append}
 use lib.Seq.{drop-append-add, drop-drop, drop-cons, set-at}
-use borrow.Author.Tests.{le-leb}
 use Rattle.grid.specs.Word.{stepsOf, wordOf, natOf}
 use Rattle.grid.specs.declared.place.Place.{Place}
 use Rattle.grid.specs.Place.{dist², spotOf}
@@ -50,21 +48,6 @@ pub tally : (P : ℕ → Bool) (i n : ℕ) (t : Bool) → t ≡ P i → n ≡ co
 tally P i n t e h =
     let z : 0 + i ≡ i = omega arith in
     rw add-one (omega (arith, count-up P 0 i, ap (λ (j : ℕ). one (P j)) z, ap one e))
-
--- the first places have no more than all
-count-first : (P : ℕ → Bool) (i d : ℕ) → count P (upFrom 0 i) ≤ count P (upFrom 0 (i + d))
-count-first P i zero =
-    let e : i + 0 ≡ i = omega arith in
-    rw e (omega arith)
-count-first P i (suc d) =
-    let e : i + suc d ≡ i + d + 1 = omega arith in
-    rw e (omega (arith, count-first P i d, tally P (i + d) (count P (upFrom 0 (i + d))) (P (i + d)) refl refl))
-
--- once the count so far reaches k, that of all does
-pub reached : (P : ℕ → Bool) (k n i m : ℕ) → n ≡ count P (upFrom 0 i) → i ≤ m → k ≤ n → true ≡ leb k (count P (upFrom 0 m))
-reached P k n i m h l t =
-    let e : i + (m - i) ≡ m = omega arith in
-    sym (le-leb k (count P (upFrom 0 m)) (omega (arith, rw e at (count-first P i (m - i)))))
 
 -- ---- one row
 

@@ -31,7 +31,7 @@ fn one(test: bool) -> usize
     if test { 1 } else { 0 }
 }
 
-// Whether at least k of the first m candidates are nearer to p than q is. It stops as soon as k are found.
+// Whether at least k of the first m candidates are nearer to p than q is. It counts them all: to stop at k costs a branch in each turn.
 pub fn hides_point(xs: &[i32], ys: &[i32], m: usize, p: Place, q: Place, k: usize) -> bool
     requires { ⌜ (m ≤ length (now xs)) × (m ≤ length (now ys)) ⌝ }
     requires { ⌜ PlaceOnGrid p × PlaceOnGrid q × ((i : ℕ) → i < m → PlaceOnGrid (placeIn (now xs) (now ys) i)) ⌝ }
@@ -44,15 +44,11 @@ pub fn hides_point(xs: &[i32], ys: &[i32], m: usize, p: Place, q: Place, k: usiz
         let c = place_at(xs, ys, i);
         n += one(is_nearer(c.square_to(p), far));
         i += 1;
-        if k <= n {
-            return true;
-        }
     }
     k <= n
 }
 
-// Whether for at least k of the first m candidates all four corners of the box are nearer to that candidate than to q.
-// It stops as soon as k are found.
+// Whether for at least k of the first m candidates all four corners of the box are nearer to that candidate than to q; counted the same way.
 pub fn hides_box(xs: &[i32], ys: &[i32], m: usize, r: Rect, q: Place, k: usize) -> bool
     requires { ⌜ (m ≤ length (now xs)) × (m ≤ length (now ys)) ⌝ }
     requires { ⌜ RectOnGrid r × PlaceOnGrid q × ((i : ℕ) → i < m → PlaceOnGrid (placeIn (now xs) (now ys) i)) ⌝ }
@@ -64,9 +60,6 @@ pub fn hides_box(xs: &[i32], ys: &[i32], m: usize, r: Rect, q: Place, k: usize) 
         let c = place_at(xs, ys, i);
         n += one(r.corners_nearer(c, q));
         i += 1;
-        if k <= n {
-            return true;
-        }
     }
     k <= n
 }

@@ -1,11 +1,11 @@
 // The filter walk: it opens a node, takes the entries nearest first, and calls itself on each child that it opens.
 ghost use mathlib.Core.Path.{_≡_};
 ghost use mathlib.Core.Bool.{true};
-ghost use Prim.Native.Nat.{_≤_};
+ghost use Prim.Native.Nat.{_<_};
 ghost use lib.ListN.{length};
 ghost use Rattle.order.specs.Lists.{All};
-ghost use Rattle.table.specs.Figures.{LENGTH};
-ghost use Rattle.table.specs.Page.{held};
+ghost use Rattle.table.specs.Figures.{SLOTS, LENGTH};
+ghost use Rattle.table.specs.Slots.{entriesAt};
 ghost use Rattle.table.specs.Stations.{isPoint};
 ghost use Rattle.filter.specs.Walk.{each, nearestFirst, visited, walk as walkOf};
 ghost use Rattle.filter.specs.Rows.{rows, Ready, Went};
@@ -15,12 +15,13 @@ use crate::discard::hides_box;
 use crate::nearest::nearest;
 use crate::seen::Seen;
 use grid::place::Place;
-use table::node::Node;
-use table::slot::node_at;
+use table::slot::count_at;
+use table::slot::entry_at;
 
 // The points of a leaf, nearest first.
 fn visit_leaf(
-    n: Node,
+    table: &[i32],
+    slot: usize,
     q: Place,
     k: usize,
     numbers: &mut [i32],
@@ -29,20 +30,20 @@ fn visit_leaf(
     squares: &mut [u64],
     seen: Seen,
 ) -> Seen
-    requires { ⌜ (n .count ≤ 10) × All (λ e. isPoint e ≡ true) (held n) ⌝ }
-    requires { ⌜ Ready q (each (visited q k) (nearestFirst q k (held n))) (rows (now numbers) (now xs) (now ys) (now squares)) seen ⌝ }
+    requires { ⌜ (length (now table) ≡ LENGTH) × (slot < SLOTS) × All (λ e. isPoint e ≡ true) (entriesAt (now table) slot) ⌝ }
+    requires { ⌜ Ready q (each (visited q k) (nearestFirst q k (entriesAt (now table) slot))) (rows (now numbers) (now xs) (now ys) (now squares)) seen ⌝ }
     ensures { λ r. ⌜
-        Went q (each (visited q k) (nearestFirst q k (held n)))
+        Went q (each (visited q k) (nearestFirst q k (entriesAt (now (table .entry)) slot)))
         (rows (now (numbers .entry)) (now (xs .entry)) (now (ys .entry)) (now (squares .entry))) seen
         (rows (now (numbers .exit)) (now (xs .exit)) (now (ys .exit)) (now (squares .exit))) r ⌝ }
 {
-    let row = nearest(n, q);
-    let count = n.count;
+    let row = nearest(table, slot, q);
+    let count = count_at(table, slot);
     let mut so_far = seen;
     let mut i = 0;
     while i < count {
         let at = row[i];
-        let e = n.entries[at];
+        let e = entry_at(table, slot, at);
         so_far = visit(e, q, k, numbers, xs, ys, squares, so_far);
         i += 1;
     }
@@ -69,18 +70,17 @@ pub fn walk(
         (rows (now (numbers .entry)) (now (xs .entry)) (now (ys .entry)) (now (squares .entry))) seen
         (rows (now (numbers .exit)) (now (xs .exit)) (now (ys .exit)) (now (squares .exit))) r ⌝ }
 {
-    let n = node_at(table, slot);
     let mut so_far = seen.opening();
     if level == 0 {
-        return visit_leaf(n, q, k, numbers, xs, ys, squares, so_far);
+        return visit_leaf(table, slot, q, k, numbers, xs, ys, squares, so_far);
     }
     let below = level - 1;
-    let row = nearest(n, q);
-    let count = n.count;
+    let row = nearest(table, slot, q);
+    let count = count_at(table, slot);
     let mut i = 0;
     while i < count {
         let at = row[i];
-        let e = n.entries[at];
+        let e = entry_at(table, slot, at);
         i += 1;
         if hides_box(xs, ys, so_far.candidates, e.rect, q, k) {
             continue;

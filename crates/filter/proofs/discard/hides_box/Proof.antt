@@ -1,6 +1,6 @@
--- `filter::discard::hides_box` meets its contract. The loop's invariant: `n` counts those of the first `i` candidates that pass the corner test.
--- The measure is what is left of the candidates. Where it returns early, the count so far has reached k. Assumes nothing.
-use Prim.Native.Nat.{ℕ, _+_, _≤_, _-_}
+-- `filter::discard::hides_box` meets its contract. The loop's invariant: `n` counts those of the first `i` candidates that pass the corner test. The measure is what is left of the candidates.
+-- Assumes nothing.
+use Prim.Native.Nat.{ℕ, _≤_, _-_}
 use native.Mathlib.Omega.{arith}
 use mathlib.Core.Path.{_≡_, ap, _∙_}
 use mathlib.Core.Bool.{Bool}
@@ -12,7 +12,7 @@ use Rattle.order.specs.Lists.{count}
 use Rattle.order.specs.Order.{upFrom}
 use Rattle.filter.specs.Rows.{placeIn}
 use Rattle.filter.proofs.Meaning.{one-most}
-use Rattle.filter.proofs.Rows.{tally, reached}
+use Rattle.filter.proofs.Rows.{tally}
 use Rattle.filter.proofs.discard.hides_box.Statement.{statement}
 use Rattle.filter.proofs.discard.hides_box.Tie as tie
 
@@ -21,21 +21,6 @@ Inv-loop xs ys m r q k n₀ i₀ n i = (i ≤ m) × (n ≤ i) × (n ≡ count (�
 
 abbrev μ-loop : tie.MeasureT-loop
 μ-loop xs ys m r q k n₀ i₀ n i = m - i
-
--- the test of candidate j
-abbrev Test : tie.After-one Inv-loop μ-loop → ℕ → Bool
-Test c j =
-    let a = c .before .before .before .before .before .args in
-    cornersNearer (a .r) (placeIn (a .xs .now) (a .ys .now) j) (a .q)
-
--- one candidate on
-counted : (c : tie.After-one Inv-loop μ-loop)
-    → let l = c .before .before .before .before .loop in l .n + c .one .result ≡ count (Test c) (upFrom 0 (l .i + 1))
-counted c =
-    let a = c .before .before .before .before .before .args in
-    let l = c .before .before .before .before .loop in
-    let t = c .before .corners-nearer .ensures ∙ ap (λ (p : Place). cornersNearer (a .r) p (a .q)) (c .before .before .place-at .ensures) in
-    omega (arith, c .one .ensures, tally (Test c) (l .i) (l .n) (c .before .corners-nearer .result) t (l .inv .2))
 
 loop-holds : tie.Need-loop-holds Inv-loop μ-loop
 loop-holds c = search needs
@@ -57,20 +42,22 @@ add-n c = omega (arith, one-most (c .before .corners-nearer .result))
 add-i : tie.Need-add-i Inv-loop μ-loop
 add-i c = search needs
 
-returns : tie.Need-returns Inv-loop μ-loop
-returns c =
-    let l = c .before .before .before .before .before in
-    let a = l .before .args in
-    reached (Test (c .before)) (a .k) _ (l .loop .i + 1) (a .m) (counted (c .before)) (omega arith) (c .if1 .taken)
-
 loop-less : tie.Need-loop-less Inv-loop μ-loop
 loop-less c = search needs
 
 loop-again : tie.Need-loop-again Inv-loop μ-loop
-loop-again c = (omega arith, omega (arith, one-most (c .before .before .corners-nearer .result)), counted (c .before))
+loop-again c =
+    let a = c .before .before .before .before .before .args in
+    let l = c .before .before .before .before .loop in
+    let test : ℕ → Bool = λ j. cornersNearer (a .r) (placeIn (a .xs .now) (a .ys .now) j) (a .q) in
+    let t = c .before .corners-nearer .ensures ∙ ap (λ (p : Place). cornersNearer (a .r) p (a .q)) (c .before .before .place-at .ensures) in (
+      omega arith,
+      omega (arith, one-most (c .before .corners-nearer .result)),
+      omega (arith, c .one .ensures, tally test (l .i) (l .n) (c .before .corners-nearer .result) t (l .inv .2)),
+    )
 
-returns-2 : tie.Need-returns-2 Inv-loop μ-loop
-returns-2 c =
+returns : tie.Need-returns Inv-loop μ-loop
+returns c =
     let l = c .before .loop in
     let a = c .before .before .args in
     let e : l .i ≡ a .m = omega arith in
@@ -88,7 +75,6 @@ hides-box-spec =
     one-requires
     add-n
     add-i
-    returns
     loop-less
     loop-again
-    returns-2)
+    returns)

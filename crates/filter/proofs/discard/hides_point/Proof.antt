@@ -1,6 +1,6 @@
 -- `filter::discard::hides_point` meets its contract. The loop's invariant: `n` counts those of the first `i` candidates that are nearer. The measure is what is left of the candidates.
--- Where it returns early, the count so far has reached k. Assumes nothing.
-use Prim.Native.Nat.{ℕ, _+_, _≤_, _-_}
+-- Assumes nothing.
+use Prim.Native.Nat.{ℕ, _≤_, _-_}
 use native.Mathlib.Omega.{arith}
 use mathlib.Core.Path.{_≡_, ap, _∙_}
 use mathlib.Core.Bool.{Bool}
@@ -13,7 +13,7 @@ use Rattle.order.specs.Lists.{count}
 use Rattle.order.specs.Order.{upFrom}
 use Rattle.filter.specs.Rows.{placeIn}
 use Rattle.filter.proofs.Meaning.{one-most}
-use Rattle.filter.proofs.Rows.{tally, reached}
+use Rattle.filter.proofs.Rows.{tally}
 use Rattle.filter.proofs.discard.hides_point.Statement.{statement}
 use Rattle.filter.proofs.discard.hides_point.Tie as tie
 
@@ -22,24 +22,6 @@ Inv-loop xs ys m p k far n₀ i₀ n i = (i ≤ m) × (n ≤ i) × (n ≡ count 
 
 abbrev μ-loop : tie.MeasureT-loop
 μ-loop xs ys m p k far n₀ i₀ n i = m - i
-
--- the test of candidate j, as the code makes it
-abbrev Test : tie.After-one Inv-loop μ-loop → ℕ → Bool
-Test c j =
-    let s = c .before .before .before .before .before .before in
-    let a = s .before .args in
-    nearer (dist² (placeIn (a .xs .now) (a .ys .now) j) (a .p)) (s .square-to .result)
-
--- one candidate on
-counted : (c : tie.After-one Inv-loop μ-loop)
-    → let l = c .before .before .before .before .before .loop in l .n + c .one .result ≡ count (Test c) (upFrom 0 (l .i + 1))
-counted c =
-    let s = c .before .before .before .before .before .before in
-    let l = c .before .before .before .before .before .loop in
-    let t = c .before .is-nearer .ensures
-    ∙ ap (λ (d : ℕ). nearer d (s .square-to .result))
-    (c .before .before .square-to2 .ensures ∙ ap (λ (p : Place). dist² p (s .before .args .p)) (c .before .before .before .place-at .ensures)) in
-    omega (arith, c .one .ensures, tally (Test c) (l .i) (l .n) (c .before .is-nearer .result) t (l .inv .2))
 
 square-to-requires : tie.Need-square-to-requires Inv-loop μ-loop
 square-to-requires c κs = search needs
@@ -67,22 +49,26 @@ add-n c = omega (arith, one-most (c .before .is-nearer .result))
 add-i : tie.Need-add-i Inv-loop μ-loop
 add-i c = search needs
 
-returns : tie.Need-returns Inv-loop μ-loop
-unfolding nearerTo
-returns c =
-    let l = c .before .before .before .before .before .before in
-    let a = l .before .before .args in
-    rw (← (l .before .square-to .ensures)) (reached (Test (c .before)) (a .k) _ (l .loop .i + 1) (a .m) (counted (c .before)) (omega arith) (c .if1 .taken))
-
 loop-less : tie.Need-loop-less Inv-loop μ-loop
 loop-less c = search needs
 
 loop-again : tie.Need-loop-again Inv-loop μ-loop
-loop-again c = (omega arith, omega (arith, one-most (c .before .before .is-nearer .result)), counted (c .before))
+loop-again c =
+    let s = c .before .before .before .before .before .before in
+    let a = s .before .args in
+    let l = c .before .before .before .before .before .loop in
+    let far = s .square-to .result in
+    let test : ℕ → Bool = λ j. nearer (dist² (placeIn (a .xs .now) (a .ys .now) j) (a .p)) far in
+    let t = c .before .is-nearer .ensures
+    ∙ ap (λ (d : ℕ). nearer d far) (c .before .before .square-to2 .ensures ∙ ap (λ (p : Place). dist² p (a .p)) (c .before .before .before .place-at .ensures)) in (
+      omega arith,
+      omega (arith, one-most (c .before .is-nearer .result)),
+      omega (arith, c .one .ensures, tally test (l .i) (l .n) (c .before .is-nearer .result) t (l .inv .2)),
+    )
 
-returns-2 : tie.Need-returns-2 Inv-loop μ-loop
+returns : tie.Need-returns Inv-loop μ-loop
 unfolding nearerTo
-returns-2 c =
+returns c =
     let l = c .before .loop in
     let a = c .before .before .before .args in
     let e : l .i ≡ a .m = omega arith in
@@ -102,7 +88,6 @@ hides-point-spec =
     one-requires
     add-n
     add-i
-    returns
     loop-less
     loop-again
-    returns-2)
+    returns)
