@@ -1,7 +1,6 @@
 -- Laws of the four rows of the candidate list, and of counts over places. Assumes nothing.
 use Prim.Native.Nat.{ℕ, zero, suc, _+_, _-_, _≤_, _<_, _^_}
 use native.Mathlib.Omega.{arith}
-use native.Mathlib.Numerals.{add-one}
 use mathlib.Core.Path.{_≡_, refl, sym, ap, _∙_}
 use mathlib.Core.Bool.{Bool, true}
 use mathlib.Core.List.{List, [], _∷_, _++_, map, map-append, append-assoc}
@@ -15,12 +14,12 @@ use Rattle.grid.specs.declared.place.Place.{Place}
 use Rattle.grid.specs.Place.{dist², spotOf}
 use Rattle.grid.proofs.Words.{steps-word}
 use Rattle.grid.proofs.Rects.{place-ext}
-use Rattle.order.specs.Lists.{one, count, All}
+use Rattle.order.specs.Lists.{count, All}
 use Rattle.filter.specs.Query.{laidOver}
 use Rattle.filter.specs.Walk.{spotIn}
 use Rattle.filter.specs.Rows.{Rows, entryIn, listed, laidIn, Room, Kept}
 use Rattle.order.proofs.Lists.{map-at, all-at}
-use Rattle.order.proofs.Order.{pick-all, up-all}
+use Rattle.order.proofs.Order.{pick-all, up-all, tally}
 use Rattle.table.specs.declared.node.Entry.{Entry}
 use Rattle.table.specs.Page.{blankEntry}
 use Rattle.table.specs.Stations.{isPoint}
@@ -36,20 +35,6 @@ count-map P f (x ∷ xs) = omega (arith, count-map P f xs)
 pub map-same : {A : Type 0} (xs : List A) → map (λ x. x) xs ≡ xs
 map-same [] = refl
 map-same (x ∷ xs) = ap (λ l. x ∷ l) (map-same xs)
-
-count-up : (P : ℕ → Bool) (a n : ℕ) → count P (upFrom a (suc n)) ≡ count P (upFrom a n) + one (P (a + n))
-count-up P a zero =
-    let e : a + 0 ≡ a = omega arith in
-    rw e (omega arith)
-count-up P a (suc n) =
-    let e : suc a + n ≡ a + suc n = omega arith in
-    omega (arith, count-up P (suc a) n, ap (λ (i : ℕ). one (P i)) e)
-
--- a count over the first places, one place on
-pub tally : (P : ℕ → Bool) (i n : ℕ) (t : Bool) → t ≡ P i → n ≡ count P (upFrom 0 i) → n + one t ≡ count P (upFrom 0 (i + 1))
-tally P i n t e h =
-    let z : 0 + i ≡ i = omega arith in
-    rw add-one (omega (arith, count-up P 0 i, ap (λ (j : ℕ). one (P j)) z, ap one e))
 
 -- the first places have no more than all
 count-first : (P : ℕ → Bool) (i d : ℕ) → count P (upFrom 0 i) ≤ count P (upFrom 0 (i + d))
