@@ -9,7 +9,7 @@ use borrow.Author.Tests.{not-true, not-false}
 use Rattle.order.specs.Lists.{filter, join, Mem, NoDup}
 use Rattle.order.specs.Order.{Perm, upFrom, pskip, ptrans}
 use Rattle.order.proofs.Perm.{perm-length}
-use Rattle.order.proofs.Order.{up-length}
+use Rattle.order.proofs.Order.{up-length, mem-up}
 use Rattle.order.proofs.Lists.{by-bool, filter-mem, mem-filter, perm-join}
 use Rattle.table.specs.Figures.{SLOTS}
 use Rattle.table.specs.Words.{Words}
@@ -17,7 +17,7 @@ use Rattle.table.specs.Slots.{slots, isFree}
 use Rattle.audit.specs.Rules.{leafEntries, refsAt}
 use Rattle.table.specs.Tree.{Tree, topOf, slotsOf, leavesOf}
 use Rattle.audit.proofs.Joined.{nodup-perm}
-use Rattle.audit.proofs.Counted.{mem-up, up-mem, nodup-up, filter-nodup, filter-both}
+use Rattle.audit.proofs.Counted.{up-mem, nodup-up, filter-nodup, filter-both}
 use Rattle.audit.proofs.OneSlot.{free-leaf, free-above}
 use Rattle.audit.proofs.AsRead.{Read, read-slot, read-leaves, read-refs}
 

@@ -12,7 +12,7 @@ use borrow.Author.Tests.{eqb-true, eq-eqb, ne-eqb}
 use Rattle.order.specs.Lists.{one, count, filter, every, join, Mem, NoDup}
 use Rattle.order.specs.Order.{upFrom}
 use Rattle.order.proofs.Lists.{by-bool, count-append, mem-count, count-mem, filter-mem, length-filter, mem-all}
-use Rattle.order.proofs.Order.{up-all}
+use Rattle.order.proofs.Order.{up-all, mem-up}
 use Rattle.audit.proofs.Tests.{every-all, all-every}
 
 -- ---- a number in a list
@@ -111,14 +111,6 @@ module _ (f : ℕ → List ℕ) (r : ℕ) where
       )
 
 -- ---- the numbers from a on
-
-pub mem-up : (r a n : ℕ) → a ≤ r → r < a + n → Mem r (upFrom a n)
-mem-up r a zero h k = absurd (omega arith)
-mem-up r a (suc n) h k =
-    elim (ℕ-discrete r a) [
-      | yes e ↦ List·Memᴰ·head e
-      | no d ↦ List·Memᴰ·tail (mem-up r (suc a) n (omega arith) (omega arith))
-    ]
 
 pub up-mem : (r a n : ℕ) → Mem r (upFrom a n) → (a ≤ r) × (r < a + n)
 up-mem r a n m = mem-all (λ i. (a ≤ i) × (i < a + n)) (upFrom a n) (up-all (λ i. (a ≤ i) × (i < a + n)) a n (λ i h k. (h, k))) m

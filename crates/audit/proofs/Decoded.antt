@@ -12,6 +12,7 @@ use Rattle.order.specs.Lists.{one, count, join, Mem, All, NoDup}
 use Rattle.order.specs.Order.{upFrom}
 use Rattle.order.proofs.Perm.{psym, perm-map, perm-length}
 use Rattle.order.proofs.Lists.{by-bool, perm-count, all-mem, perm-nodup}
+use Rattle.order.proofs.Order.{mem-up}
 use Rattle.table.specs.declared.node.Entry.{Entry}
 use Rattle.table.specs.Figures.{LEAST, SLOTS}
 use Rattle.table.specs.Words.{Words, rootOf, pointsOf, partAt}
@@ -23,7 +24,7 @@ use Rattle.table.specs.Tree.{Tree, topOf, entryOfTree, entriesOfTree, slotsOf, 
 use Rattle.table.proofs.Nodes.{entry-ext, page-ext}
 use Rattle.audit.proofs.Tests.{by-test}
 use Rattle.audit.proofs.Joined.{mem-join, join-mem, map-join, all-join, all-map}
-use Rattle.audit.proofs.Counted.{number-counted, counted-number, number-missing, count-nodup, Source, one-source, source-count, mem-up, up-mem, nodup-up}
+use Rattle.audit.proofs.Counted.{number-counted, counted-number, number-missing, count-nodup, Source, one-source, source-count, up-mem, nodup-up}
 use Rattle.audit.proofs.Reading.{entry-tree}
 use Rattle.audit.proofs.OneSlot.{Here, above-above, above-in, least-other, least-root}
 use Rattle.audit.proofs.Ruled.{Ruled, below, covered}

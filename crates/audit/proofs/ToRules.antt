@@ -11,6 +11,7 @@ use borrow.Author.Tests.{eq-eqb, ne-eqb}
 use Rattle.order.specs.Lists.{one, count, join, Mem, All, NoDup}
 use Rattle.order.proofs.Perm.{psym, perm-map, perm-length}
 use Rattle.order.proofs.Lists.{perm-count, all-perm, all-mem, mem-all, perm-nodup}
+use Rattle.order.proofs.Order.{mem-up}
 use Rattle.table.specs.declared.node.Entry.{Entry}
 use Rattle.table.specs.Figures.{FAN, SLOTS}
 use Rattle.table.specs.Words.{Words, partAt}
@@ -21,7 +22,7 @@ use Rattle.table.specs.Stations.{isPoint}
 use Rattle.table.specs.Tree.{Tree, topOf, entryOfTree, entriesOfTree, slotsOf, leastOf, Stored, Sound, Holds}
 use Rattle.audit.proofs.Tests.{by-test}
 use Rattle.audit.proofs.Joined.{map-join, all-parts}
-use Rattle.audit.proofs.Counted.{number-counted, nodup-count, mem-up}
+use Rattle.audit.proofs.Counted.{number-counted, nodup-count}
 use Rattle.audit.proofs.Size.{some-leaf}
 use Rattle.audit.proofs.Reading.{Good, good-root, good-child, least-some, top-inside, entry-reference, entry-rect, entries-fill, entry-child, stored-part, stored-child, stored-used, stored-level, stored-entries, held-root, held-points}
 use Rattle.audit.proofs.OneSlot.{above-above, above-in, least-most, least-root}

@@ -1,16 +1,13 @@
 // The lines of document 01's table of refusals that speak of what is asked, and of what the table holds.
 ghost use mathlib.Core.Path.{_≡_};
-ghost use Prim.Native.Nat.{_≤_, _<_};
-ghost use mathlib.Core.List.{map};
+ghost use Prim.Native.Nat.{_<_};
 ghost use lib.ListN.{length};
 ghost use Rattle.order.specs.Lists.{has};
 ghost use Rattle.table.specs.Figures.{SLOTS, LENGTH};
-ghost use Rattle.table.specs.Page.{held};
 ghost use Rattle.audit.specs.Rules.{numbersAt};
 ghost use Rattle.desk.specs.Refusals.{site, noSuchNumber, offGrid, noSuchK, isEnrolled, isFull};
 use grid::border;
 use table::figures::Table;
-use table::node::Node;
 use table::slot;
 
 // 3: point number outside 1 to 9,999.
@@ -45,23 +42,6 @@ pub(crate) fn no_such_k(k: i32) -> bool
     16 < least
 }
 
-// Whether an entry of a leaf is the point of a number.
-fn refers(leaf: Node, number: usize) -> bool
-    requires { ⌜ leaf .count ≤ 10 ⌝ }
-    ensures { λ r. ⌜ r ≡ has number (map (λ e. e .reference) (held leaf)) ⌝ }
-{
-    let count = leaf.count;
-    let mut i = 0;
-    while i < count {
-        let e = leaf.entries[i];
-        if e.reference == number {
-            return true;
-        }
-        i += 1;
-    }
-    false
-}
-
 // Whether a number stands in a slot. A free slot has level −1, so it is no leaf.
 fn stands_in(table: &[i32], slot: usize, number: usize) -> bool
     requires { ⌜ (length (now table) ≡ LENGTH) × (slot < SLOTS) ⌝ }
@@ -70,7 +50,17 @@ fn stands_in(table: &[i32], slot: usize, number: usize) -> bool
     if slot::level_at(table, slot) != 0 {
         return false;
     }
-    refers(slot::node_at(table, slot), number)
+    // Its entries one by one: a node would be built only to be searched.
+    let count = slot::count_at(table, slot);
+    let mut i = 0;
+    while i < count {
+        let e = slot::entry_at(table, slot, i);
+        if e.reference == number {
+            return true;
+        }
+        i += 1;
+    }
+    false
 }
 
 // 6 and 8: whether the number is enrolled.

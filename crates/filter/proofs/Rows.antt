@@ -35,20 +35,6 @@ pub map-same : {A : Type 0} (xs : List A) → map (λ x. x) xs ≡ xs
 map-same [] = refl
 map-same (x ∷ xs) = ap (λ l. x ∷ l) (map-same xs)
 
-count-up : (P : ℕ → Bool) (a n : ℕ) → count P (upFrom a (suc n)) ≡ count P (upFrom a n) + one (P (a + n))
-count-up P a zero =
-    let e : a + 0 ≡ a = omega arith in
-    rw e (omega arith)
-count-up P a (suc n) =
-    let e : suc a + n ≡ a + suc n = omega arith in
-    omega (arith, count-up P (suc a) n, ap (λ (i : ℕ). one (P i)) e)
-
--- a count over the first places, one place on
-pub tally : (P : ℕ → Bool) (i n : ℕ) (t : Bool) → t ≡ P i → n ≡ count P (upFrom 0 i) → n + one t ≡ count P (upFrom 0 (i + 1))
-tally P i n t e h =
-    let z : 0 + i ≡ i = omega arith in
-    rw add-one (omega (arith, count-up P 0 i, ap (λ (j : ℕ). one (P j)) z, ap one e))
-
 -- ---- one row
 
 module _ {A : Type 0} where

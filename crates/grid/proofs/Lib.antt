@@ -1,6 +1,6 @@
 pub mod Words
-pub mod Machine
 pub mod Axis
+pub mod Machine
 pub mod Rects
 pub mod Nearer
 pub mod Site

@@ -1,7 +1,7 @@
 // One axis of a rectangle: a stretch of steps. What serves both axes is here, once.
 ghost use mathlib.Core.Path.{_≡_};
 ghost use Prim.Native.Nat.{_+_, _-_, _*_, _≤_, _<_, min, max};
-ghost use Rattle.grid.specs.Axis.{OnGrid, SpanOnGrid, apart as apartOf, sq, spanGrown, spanLength, spanSum, gap};
+ghost use Rattle.grid.specs.Axis.{OnGrid, SpanOnGrid, sq, spanGrown, spanLength, spanSum, gap};
 
 pub struct Span {
     pub low: u64,
@@ -27,20 +27,13 @@ pub fn greater(a: u64, b: u64) -> u64
     if a < b { b } else { a }
 }
 
-// How far two coordinates are apart.
-pub fn apart(a: u64, b: u64) -> u64
-    ensures { λ r. ⌜ r ≡ apartOf a b ⌝ }
-{
-    if b < a { a - b } else { b - a }
-}
-
-// The squared distance of two coordinates.
+// The squared distance of two coordinates. A signed difference has no branch: its square does not ask which is the greater.
 pub fn square(a: u64, b: u64) -> u64
     requires { ⌜ OnGrid a × OnGrid b ⌝ }
     ensures { λ r. ⌜ r ≡ sq a b ⌝ }
 {
-    let d = apart(a, b);
-    d * d
+    let d = a as i64 - b as i64;
+    (d * d) as u64
 }
 
 impl Span {

@@ -10,13 +10,14 @@ use lib.ListN.{length}
 use Rattle.order.specs.Lists.{one, count, firstPlace, Mem, NoDup}
 use Rattle.order.specs.Order.{upFrom}
 use Rattle.order.proofs.Lists.{by-bool}
+use Rattle.order.proofs.Order.{mem-up}
 use Rattle.table.specs.Figures.{FAN, SLOTS, LENGTH}
 use Rattle.table.specs.Words.{Words, word, isMinusOne, partAt}
 use Rattle.table.specs.Page.{Page}
 use Rattle.table.specs.Slots.{slots, isFree, putPage, lowestFree}
 use Rattle.table.proofs.Slots.{put-here, put-other, page-part-used}
 use Rattle.joining.specs.Within.{freeCount}
-use Rattle.audit.proofs.Counted.{mem-up, nodup-up}
+use Rattle.audit.proofs.Counted.{nodup-up}
 
 -- ---- counts of tests that agree
 

@@ -1,3 +1,4 @@
 pub mod Lists
 pub mod Order
 pub mod Perm
+pub mod Ranks

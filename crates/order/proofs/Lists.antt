@@ -44,6 +44,10 @@ map-at f (x ∷ xs) d e (suc i) h = map-at f xs d e i (le-of-suc-le-suc h)
 
 -- ---- counts and filters
 
+pub one-most : (b : Bool) → one b ≤ 1
+one-most true = omega arith
+one-most false = omega arith
+
 pub count-append : {A : Type 0} (P : A → Bool) (xs ys : List A) → count P (xs ++ ys) ≡ count P xs + count P ys
 count-append P [] ys = omega arith
 count-append P (x ∷ xs) ys = omega (arith, count-append P xs ys)

@@ -11,8 +11,8 @@ use Rattle.grid.specs.Nearer.{cornersNearer}
 use Rattle.order.specs.Lists.{count}
 use Rattle.order.specs.Order.{upFrom}
 use Rattle.filter.specs.Rows.{placeIn}
-use Rattle.filter.proofs.Meaning.{one-most}
-use Rattle.filter.proofs.Rows.{tally}
+use Rattle.order.proofs.Lists.{one-most}
+use Rattle.order.proofs.Order.{tally}
 use Rattle.filter.proofs.discard.hides_box.Statement.{statement}
 use Rattle.filter.proofs.discard.hides_box.Tie as tie
 

@@ -12,8 +12,8 @@ use Rattle.grid.specs.Nearer.{nearer, nearerTo}
 use Rattle.order.specs.Lists.{count}
 use Rattle.order.specs.Order.{upFrom}
 use Rattle.filter.specs.Rows.{placeIn}
-use Rattle.filter.proofs.Meaning.{one-most}
-use Rattle.filter.proofs.Rows.{tally}
+use Rattle.order.proofs.Lists.{one-most}
+use Rattle.order.proofs.Order.{tally}
 use Rattle.filter.proofs.discard.hides_point.Statement.{statement}
 use Rattle.filter.proofs.discard.hides_point.Tie as tie
 

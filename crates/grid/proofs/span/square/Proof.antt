@@ -1,27 +1,26 @@
--- `grid::span::square` meets its contract: the square of how far the two are apart. Assumes nothing.
-use mathlib.Core.Path.{_≡_, ap}
-use Prim.Native.Nat.{ℕ, _*_}
-use native.Mathlib.Omega.{arith}
+-- `grid::span::square` meets its contract: the laws of `proofs/Machine.antt` say what the machine reads back at each step. Assumes nothing.
 use borrow.Author.Needs.{needs}
-use Rattle.grid.specs.Axis.{sq}
-use Rattle.grid.proofs.Axis.{sq-most}
+use Rattle.grid.proofs.Machine.{minus-fits, square-fits, square-natural, square-steps}
 use Rattle.grid.proofs.span.square.Statement.{statement}
 use Rattle.grid.proofs.span.square.Tie as tie
 
-is : (c : tie.After-apart) → c .apart .result * c .apart .result ≡ sq (c .before .args .a) (c .before .args .b)
-unfolding sq
-is c = ap (λ (n : ℕ). n * n) (c .apart .ensures)
+cast-d : tie.Need-cast-d
+cast-d c = search needs
 
-apart-requires : tie.Need-apart-requires
-apart-requires c κs = search needs
+cast-d-2 : tie.Need-cast-d-2
+cast-d-2 c = search needs
+
+sub-d : tie.Need-sub-d
+sub-d c = minus-fits (c .args .a) (c .args .b) (c .pre .0) (c .pre .1)
 
 mul-result : tie.Need-mul-result
-mul-result c =
-    let s = c .before in
-    record { fits = omega (arith, is c, sq-most (s .args .a) (s .args .b) (s .pre .0) (s .pre .1)) }
+mul-result c = square-fits (c .args .a) (c .args .b) (c .pre .0) (c .pre .1)
+
+cast-result : tie.Need-cast-result
+cast-result c = square-natural (c .args .a) (c .args .b) (c .pre .0) (c .pre .1)
 
 returns : tie.Need-returns
-returns c = is c
+returns c = square-steps (c .args .a) (c .args .b) (c .pre .0) (c .pre .1)
 
 pub square-spec : {M : Type 1} → statement M
-square-spec = tie.close (tie.spec apart-requires mul-result returns)
+square-spec = tie.close (tie.spec cast-d cast-d-2 sub-d mul-result cast-result returns)
