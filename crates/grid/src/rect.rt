@@ -1,16 +1,24 @@
 // A rectangle by value: grown, area, least squared distance, corner test.
 ghost use mathlib.Core.Path.{_≡_};
 ghost use Prim.Native.Nat.{_+_, _-_, _*_, _≤_};
-ghost use Rattle.grid.specs.Place.{PlaceOnGrid, RectOnGrid, rectGrown, areaOf, growthOf, longerAxis, sumOn, leastSquare};
-ghost use Rattle.grid.specs.Nearer.{cornerNearer, cornersNearer};
+ghost use Rattle.grid.specs.Place.{PlaceOnGrid, RectOnGrid, RectEndsRaised, rectGrown, areaOf, growthOf, longerAxis, sumOn, leastSquare, rectEndsOf};
+ghost use Rattle.grid.specs.Nearer.{cornerNearer, cornersNearer, allNearer};
 use crate::place::Place;
 use crate::place::is_nearer;
+use crate::span::Ends;
+use crate::span::RAISE;
 use crate::span::Span;
 use crate::span::beyond;
 
 pub struct Rect {
     pub x: Span,
     pub y: Span,
+}
+
+// The squares of a place's distances to the ends of a rectangle, axis by axis, raised.
+pub struct RectEnds {
+    pub x: Ends,
+    pub y: Ends,
 }
 
 pub enum Axis {
@@ -93,5 +101,27 @@ impl Rect {
         let third = corner_nearer(self.x.high, self.y.low, c, q);
         let fourth = corner_nearer(self.x.high, self.y.high, c, q);
         first & (second & (third & fourth))
+    }
+
+    // The squares of q's distances to the ends, raised: computed once for many c.
+    pub fn ends(self, q: Place) -> RectEnds
+        requires { ⌜ RectOnGrid self × PlaceOnGrid q ⌝ }
+        ensures { λ r. ⌜ r ≡ rectEndsOf self q ⌝ }
+    {
+        RectEnds {
+            x: self.x.ends(q.x),
+            y: self.y.ends(q.y),
+        }
+    }
+
+    // The corner test, with q's squares at hand: all four corners are nearer to c than to the place that the squares are of.
+    pub fn all_nearer(self, c: Place, ends: RectEnds) -> bool
+        requires { ⌜ RectOnGrid self × PlaceOnGrid c × RectEndsRaised ends ⌝ }
+        ensures { λ r. ⌜ r ≡ allNearer self c ends ⌝ }
+    {
+        is_nearer(
+            2 * RAISE,
+            self.x.lead(c.x, ends.x) + self.y.lead(c.y, ends.y),
+        )
     }
 }
