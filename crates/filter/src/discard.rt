@@ -54,11 +54,12 @@ pub fn hides_box(xs: &[i32], ys: &[i32], m: usize, r: Rect, q: Place, k: usize) 
     requires { ⌜ RectOnGrid r × PlaceOnGrid q × ((i : ℕ) → i < m → PlaceOnGrid (placeIn (now xs) (now ys) i)) ⌝ }
     ensures { λ n. ⌜ n ≡ leb k (count (λ i. cornersNearer r (placeIn (now (xs .entry)) (now (ys .entry)) i) q) (upFrom 0 m)) ⌝ }
 {
+    let ends = r.ends(q);
     let mut n = 0;
     let mut i = 0;
     while i < m {
         let c = place_at(xs, ys, i);
-        n += one(r.corners_nearer(c, q));
+        n += one(r.all_nearer(c, ends));
         i += 1;
     }
     k <= n

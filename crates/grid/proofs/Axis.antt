@@ -6,7 +6,8 @@ use native.Mathlib.Decide.{decLe}
 use native.Mathlib.Nat.{mul-le-mul}
 use native.Mathlib.Omega.{arith}
 use Rattle.grid.specs.declared.span.Span.{Span}
-use Rattle.grid.specs.Axis.{OnGrid, SpanOnGrid, InSpan, SpanWithin, apart, sq, spanGrown, spanLength, gap}
+use Rattle.grid.specs.declared.span.Ends.{Ends}
+use Rattle.grid.specs.Axis.{OnGrid, SpanOnGrid, EndsRaised, InSpan, SpanWithin, RAISE, apart, sq, spanGrown, spanLength, gap, endsOf, leadOf}
 
 -- ---- distances
 
@@ -129,3 +130,39 @@ gap-least a i = omega arith
 pub gap-square-least : {p : ℕ} {s : Span} (a : ℕ) → InSpan p s → gap s a * gap s a ≤ sq a p
 unfolding sq
 gap-square-least a i = mul-le-mul (gap-least a i) (gap-least a i)
+
+-- ---- the ends of a span
+
+pub ends-ext : {s t : Ends} → s .low ≡ t .low → s .high ≡ t .high → s ≡ t
+ends-ext p q = λ i. record { low = p i; high = q i }
+
+pub ends-raised : {s : Span} {q : ℕ} → SpanOnGrid s → OnGrid q → EndsRaised (endsOf s q)
+ends-raised {s} {q} g h =
+    let l = sq-most q (s .low) h (g .low) in
+    let m = sq-most q (s .high) h (g .high) in
+    record { low = omega arith; lowMost = omega arith; high = omega arith; highMost = omega arith }
+
+pub lead-most : (s : Span) (c : ℕ) {e : Ends} → EndsRaised e → leadOf s c e ≤ 2 * RAISE
+unfolding leadOf
+lead-most s c h = omega (arith, h .lowMost)
+
+-- the lead over q: at neither end is c nearer by less, and at one of the two by no more
+pub record Lead (s : Span) (c q n : ℕ) : Type 0 where
+  pub low : n + sq c (s .low) ≤ RAISE + sq q (s .low)
+  pub high : n + sq c (s .high) ≤ RAISE + sq q (s .high)
+  pub one : (RAISE + sq q (s .low) ≤ n + sq c (s .low)) ⊎ (RAISE + sq q (s .high) ≤ n + sq c (s .high))
+
+pub lead : {s : Span} {c : ℕ} (q : ℕ) → SpanOnGrid s → OnGrid c → Lead s c q (leadOf s c (endsOf s q))
+unfolding leadOf
+lead {s} {c} q g h =
+    let l = sq-most c (s .low) h (g .low) in
+    let m = sq-most c (s .high) h (g .high) in
+    record {
+      low = omega arith;
+      high = omega arith;
+      one =
+          ⊎-elim
+          (λ u. inl (omega arith))
+          (λ u. inr (omega arith))
+          (either ((RAISE + sq q (s .low)) - sq c (s .low)) ((RAISE + sq q (s .high)) - sq c (s .high)));
+    }

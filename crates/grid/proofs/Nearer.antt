@@ -1,5 +1,5 @@
 -- The laws of `nearer`, with the half-plane theorem. No other file of the repository, but the proof of `is_nearer`, looks inside `nearer`. Assumes nothing.
-use mathlib.Core.Path.{_≡_, refl}
+use mathlib.Core.Path.{_≡_, refl, sym}
 use mathlib.Core.Logic.{⊎-elim}
 use mathlib.Core.Bool.{Bool, true, false, _&&_}
 use Prim.Native.Nat.{ℕ, _+_, _≤_}
@@ -7,9 +7,9 @@ use native.Mathlib.Omega.{arith}
 use borrow.Author.Tests.{ltb-true, lt-ltb, le-ltb}
 use Rattle.grid.specs.declared.place.Place.{Place}
 use Rattle.grid.specs.declared.rect.Rect.{Rect}
-use Rattle.grid.specs.Place.{Inside, dist²}
-use Rattle.grid.specs.Nearer.{nearer, nearerTo, cornerNearer, cornersNearer}
-use Rattle.grid.proofs.Axis.{worst}
+use Rattle.grid.specs.Place.{PlaceOnGrid, RectOnGrid, Inside, dist², rectEndsOf}
+use Rattle.grid.specs.Nearer.{nearer, nearerTo, cornerNearer, cornersNearer, allNearer}
+use Rattle.grid.proofs.Axis.{worst, lead}
 
 -- ---- what holds of strictly nearer, and would hold of nearer or equal
 
@@ -87,3 +87,42 @@ half-plane {p} {r} c q t i =
     (λ u. ⊎-elim (λ v. near-shift _ _ _ _ (omega arith) (k .ll)) (λ v. near-shift _ _ _ _ (omega arith) (k .lh)) on-y)
     (λ u. ⊎-elim (λ v. near-shift _ _ _ _ (omega arith) (k .hl)) (λ v. near-shift _ _ _ _ (omega arith) (k .hh)) on-y)
     (worst (c .x) (q .x) (r .x) (p .x) (i .x))
+
+-- ---- the corner test by leads
+
+same : (a b : Bool) → (a ≡ true → b ≡ true) → (b ≡ true → a ≡ true) → a ≡ b
+same true b f g = sym (f refl)
+same false true f g = g refl
+same false false f g = refl
+
+joined : (r : Rect) (c q : Place) → Corners r c q → cornersNearer r c q ≡ true
+unfolding cornersNearer
+joined r c q k = rw (k .ll, k .lh, k .hl, k .hh) refl
+
+-- the sum of the leads is more than nothing: so is each corner's
+led : (r : Rect) (c q : Place) → RectOnGrid r → PlaceOnGrid c → allNearer r c (rectEndsOf r q) ≡ true → Corners r c q
+unfolding allNearer nearerTo dist²
+led r c q g h t =
+    let x = lead (q .x) (g .x) (h .x) in
+    let y = lead (q .y) (g .y) (h .y) in
+    record {
+      ll = near-shift _ _ _ _ (omega (arith, x .low, y .low)) t;
+      lh = near-shift _ _ _ _ (omega (arith, x .low, y .high)) t;
+      hl = near-shift _ _ _ _ (omega (arith, x .high, y .low)) t;
+      hh = near-shift _ _ _ _ (omega (arith, x .high, y .high)) t;
+    }
+
+-- one corner's lead is the sum of the leads
+leads : (r : Rect) (c q : Place) → RectOnGrid r → PlaceOnGrid c → Corners r c q → allNearer r c (rectEndsOf r q) ≡ true
+unfolding allNearer nearerTo dist²
+leads r c q g h k =
+    let on-y = lead (q .y) (g .y) (h .y) .one in
+    ⊎-elim
+    (λ u. ⊎-elim (λ v. near-shift _ _ _ _ (omega (arith, u, v)) (k .ll)) (λ v. near-shift _ _ _ _ (omega (arith, u, v)) (k .lh)) on-y)
+    (λ u. ⊎-elim (λ v. near-shift _ _ _ _ (omega (arith, u, v)) (k .hl)) (λ v. near-shift _ _ _ _ (omega (arith, u, v)) (k .hh)) on-y)
+    (lead (q .x) (g .x) (h .x) .one)
+
+-- with q's ends the test by leads is the corner test
+pub all-nearer : {r : Rect} {c : Place} (q : Place) → RectOnGrid r → PlaceOnGrid c → allNearer r c (rectEndsOf r q) ≡ cornersNearer r c q
+all-nearer {r} {c} q g h =
+    same _ _ (λ t. joined r c q (led r c q g h t)) (λ t. leads r c q g h (corners r c q t))

@@ -3,6 +3,7 @@ use Prim.Native.Nat.{ℕ, _+_, _-_, _*_, _≤_, min, max}
 use mathlib.Core.Bool.{Bool, _&&_}
 use lib.Dec.{leb}
 use Rattle.grid.specs.declared.span.Span.{Span}
+use Rattle.grid.specs.declared.span.Ends.{Ends}
 
 -- the coordinate is on the grid: a million steps to either side of the false origin at most
 pub record OnGrid (a : ℕ) : Type 0 where
@@ -49,3 +50,22 @@ pub record InSpan (a : ℕ) (s : Span) : Type 0 where
 pub record SpanWithin (s t : Span) : Type 0 where
   pub low : t .low ≤ s .low
   pub high : s .high ≤ t .high
+
+-- what is added to a square so that any other can be taken from it: no square of the grid reaches it
+abbrev pub RAISE : ℕ
+RAISE = 8796093022208
+
+-- the squares of a coordinate's distances to the two ends of the span, raised
+abbrev pub endsOf : Span → ℕ → Ends
+endsOf s q = record { low = RAISE + sq q (s .low); high = RAISE + sq q (s .high) }
+
+-- both ends are raised, and once only
+pub record EndsRaised (e : Ends) : Type 0 where
+  pub low : RAISE ≤ e .low
+  pub lowMost : e .low ≤ 2 * RAISE
+  pub high : RAISE ≤ e .high
+  pub highMost : e .high ≤ 2 * RAISE
+
+-- by how much c is nearer at that end of the two where it is least so, raised
+unfoldable pub leadOf : Span → ℕ → Ends → ℕ
+leadOf s c e = min (e .low - sq c (s .low)) (e .high - sq c (s .high))

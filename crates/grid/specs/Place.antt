@@ -4,9 +4,10 @@ use mathlib.Core.Bool.{cond}
 use lib.Dec.{ltb}
 use Rattle.grid.specs.declared.place.Place.{Place}
 use Rattle.grid.specs.declared.rect.Rect.{Rect}
+use Rattle.grid.specs.declared.rect.RectEnds.{RectEnds}
 use Rattle.grid.specs.declared.rect.Axis.{Axis}
 use Rattle.grid.specs.declared.rect.Axis.the-variants.{X, Y}
-use Rattle.grid.specs.Axis.{OnGrid, SpanOnGrid, sq, spanGrown, spanLength, spanSum, gap, InSpan, SpanWithin}
+use Rattle.grid.specs.Axis.{OnGrid, SpanOnGrid, EndsRaised, sq, spanGrown, spanLength, spanSum, gap, endsOf, InSpan, SpanWithin}
 
 pub record PlaceOnGrid (p : Place) : Type 0 where
   pub x : OnGrid (p .x)
@@ -57,3 +58,12 @@ pub record Inside (p : Place) (r : Rect) : Type 0 where
 pub record Within (r s : Rect) : Type 0 where
   pub x : SpanWithin (r .x) (s .x)
   pub y : SpanWithin (r .y) (s .y)
+
+-- the squares of a place's distances to the ends of the rectangle, raised
+abbrev pub rectEndsOf : Rect → Place → RectEnds
+rectEndsOf r q = record { x = endsOf (r .x) (q .x); y = endsOf (r .y) (q .y) }
+
+-- the ends of both axes are raised, and once only
+pub record RectEndsRaised (e : RectEnds) : Type 0 where
+  pub x : EndsRaised (e .x)
+  pub y : EndsRaised (e .y)

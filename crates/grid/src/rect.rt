@@ -1,10 +1,12 @@
 // A rectangle by value: grown, area, least squared distance, corner test.
 ghost use mathlib.Core.Path.{_≡_};
 ghost use Prim.Native.Nat.{_+_, _-_, _*_, _≤_};
-ghost use Rattle.grid.specs.Place.{PlaceOnGrid, RectOnGrid, rectGrown, areaOf, growthOf, longerAxis, sumOn, leastSquare};
-ghost use Rattle.grid.specs.Nearer.{cornerNearer, cornersNearer};
+ghost use Rattle.grid.specs.Place.{PlaceOnGrid, RectOnGrid, RectEndsRaised, rectGrown, areaOf, growthOf, longerAxis, sumOn, leastSquare, rectEndsOf};
+ghost use Rattle.grid.specs.Nearer.{allNearer};
 use crate::place::Place;
 use crate::place::is_nearer;
+use crate::span::Ends;
+use crate::span::RAISE;
 use crate::span::Span;
 use crate::span::beyond;
 
@@ -13,18 +15,15 @@ pub struct Rect {
     pub y: Span,
 }
 
+// The squares of a place's distances to the ends of a rectangle, axis by axis, raised.
+pub struct RectEnds {
+    pub x: Ends,
+    pub y: Ends,
+}
+
 pub enum Axis {
     X,
     Y,
-}
-
-// Whether the corner (x, y) is nearer to c than to q.
-pub fn corner_nearer(x: u64, y: u64, c: Place, q: Place) -> bool
-    requires { ⌜ PlaceOnGrid (record { x = x; y = y }) × PlaceOnGrid c × PlaceOnGrid q ⌝ }
-    ensures { λ r. ⌜ r ≡ cornerNearer x y c q ⌝ }
-{
-    let corner = Place { x, y };
-    is_nearer(c.square_to(corner), q.square_to(corner))
 }
 
 impl Rect {
@@ -83,15 +82,25 @@ impl Rect {
         self.x.gap_square(q.x) + self.y.gap_square(q.y)
     }
 
-    // The corner test: all four corners are nearer to c than to q. All four are compared: no branch has to guess which one fails.
-    pub fn corners_nearer(self, c: Place, q: Place) -> bool
-        requires { ⌜ RectOnGrid self × PlaceOnGrid c × PlaceOnGrid q ⌝ }
-        ensures { λ r. ⌜ r ≡ cornersNearer self c q ⌝ }
+    // The squares of q's distances to the ends, raised: computed once for many c.
+    pub fn ends(self, q: Place) -> RectEnds
+        requires { ⌜ RectOnGrid self × PlaceOnGrid q ⌝ }
+        ensures { λ r. ⌜ r ≡ rectEndsOf self q ⌝ }
     {
-        let first = corner_nearer(self.x.low, self.y.low, c, q);
-        let second = corner_nearer(self.x.low, self.y.high, c, q);
-        let third = corner_nearer(self.x.high, self.y.low, c, q);
-        let fourth = corner_nearer(self.x.high, self.y.high, c, q);
-        first & (second & (third & fourth))
+        RectEnds {
+            x: self.x.ends(q.x),
+            y: self.y.ends(q.y),
+        }
+    }
+
+    // The corner test, with q's squares at hand: all four corners are nearer to c than to the place that the squares are of.
+    pub fn all_nearer(self, c: Place, ends: RectEnds) -> bool
+        requires { ⌜ RectOnGrid self × PlaceOnGrid c × RectEndsRaised ends ⌝ }
+        ensures { λ r. ⌜ r ≡ allNearer self c ends ⌝ }
+    {
+        is_nearer(
+            2 * RAISE,
+            self.x.lead(c.x, ends.x) + self.y.lead(c.y, ends.y),
+        )
     }
 }

@@ -1,9 +1,18 @@
 // One axis of a rectangle: a stretch of steps. What serves both axes is here, once.
 ghost use mathlib.Core.Path.{_≡_};
 ghost use Prim.Native.Nat.{_+_, _-_, _*_, _≤_, _<_, min, max};
-ghost use Rattle.grid.specs.Axis.{OnGrid, SpanOnGrid, sq, spanGrown, spanLength, spanSum, gap};
+ghost use Rattle.grid.specs.Axis.{OnGrid, SpanOnGrid, EndsRaised, sq, spanGrown, spanLength, spanSum, gap, endsOf, leadOf};
 
 pub struct Span {
+    pub low: u64,
+    pub high: u64,
+}
+
+// What is added to a square so that any other can be taken from it: no square of the grid reaches it.
+pub const RAISE: u64 = 8796093022208;
+
+// The squares of a coordinate's distances to the two ends of a span, raised.
+pub struct Ends {
     pub low: u64,
     pub high: u64,
 }
@@ -68,5 +77,26 @@ impl Span {
     {
         let d = beyond(self.low, at) + beyond(at, self.high);
         d * d
+    }
+
+    // The squares of q's distances to the two ends, raised: computed once for many c.
+    pub fn ends(self, q: u64) -> Ends
+        requires { ⌜ SpanOnGrid self × OnGrid q ⌝ }
+        ensures { λ r. ⌜ r ≡ endsOf self q ⌝ }
+    {
+        let low = RAISE + square(q, self.low);
+        let high = RAISE + square(q, self.high);
+        Ends { low, high }
+    }
+
+    // By how much c is nearer at that end of the two where it is least so, raised.
+    pub fn lead(self, c: u64, ends: Ends) -> u64
+        requires { ⌜ SpanOnGrid self × OnGrid c × EndsRaised ends ⌝ }
+        ensures { λ r. ⌜ r ≡ leadOf self c ends ⌝ }
+    {
+        lesser(
+            ends.low - square(c, self.low),
+            ends.high - square(c, self.high),
+        )
     }
 }
