@@ -115,14 +115,14 @@ module _ (ws : Words) (q : Site) (k : ℤ) (room : ℕ) where
 
 -- ---- what each answer leaves behind
 
-queried-ext : {a b : Queried} → a .given ≡ b .given → a .counts ≡ b .counts → a .candidates ≡ b .candidates → a .answers ≡ b .answers → a ≡ b
+pub queried-ext : {a b : Queried} → a .given ≡ b .given → a .counts ≡ b .counts → a .candidates ≡ b .candidates → a .answers ≡ b .answers → a ≡ b
 queried-ext g c r o = λ i. record { given = g i; counts = c i; candidates = r i; answers = o i }
 
-counts-ext : {a b : Counts} → a .n ≡ b .n → a .m ≡ b .m → a .o ≡ b .o → a ≡ b
+pub counts-ext : {a b : Counts} → a .n ≡ b .n → a .m ≡ b .m → a .o ≡ b .o → a ≡ b
 counts-ext n m o = λ i. record { n = n i; m = m i; o = o i }
 
 module _ (ws : Words) (q : Site) (k : ℤ) where
-  after-refused : (cs : List Record) (out : List ℕ) {g : Given} → g ≡ queryGives ws q k (length cs) (length out) → (g ≡ Done → ⊥) → (g ≡ FewAnswers → ⊥)
+  pub after-refused : (cs : List Record) (out : List ℕ) {g : Given} → g ≡ queryGives ws q k (length cs) (length out) → (g ≡ Done → ⊥) → (g ≡ FewAnswers → ⊥)
       → queried (record { given = g; n = 0; m = 0; o = 0 }) cs out ≡ afterQuery ws q k cs out
   unfolding afterQuery
   after-refused cs out {g} e d f =

@@ -9,3 +9,4 @@ pub mod CallNumbers
 pub mod CallOrder
 pub mod CallRows
 pub mod CallQuery
+pub mod CallList

@@ -28,7 +28,7 @@ pub struct Answered {
 }
 
 // A refusal has zero counts.
-fn refused(given: Given) -> Answered
+pub(crate) fn refused(given: Given) -> Answered
     ensures { λ r. ⌜ r ≡ record { given = given; n = 0; m = 0; o = 0 } ⌝ }
 {
     Answered {
@@ -56,7 +56,7 @@ fn room(numbers: &[i32], xs: &[i32], ys: &[i32], squares: &[u64]) -> usize
 }
 
 // What is handed back where the answer list has so many places: 10 gives n alone.
-fn handed_back(reply: Reply, places: usize) -> Answered
+pub(crate) fn handed_back(reply: Reply, places: usize) -> Answered
     ensures { λ r. ⌜ r ≡ told reply places ⌝ }
 {
     if places < reply.n {
@@ -76,7 +76,7 @@ fn handed_back(reply: Reply, places: usize) -> Answered
 }
 
 // What a query gives on a table that passes the check if its answer list has room for all answers: 4, 5, 9.
-fn query_given(table: &[i32], x: i32, y: i32, k: i32, room: usize) -> Given
+pub(crate) fn query_given(table: &[i32], x: i32, y: i32, k: i32, room: usize) -> Given
     requires { ⌜ (length (now table) ≡ LENGTH) × (wellFormed (now table) ≡ true) ⌝ }
     ensures { λ r.
         ⌜

@@ -1,0 +1,124 @@
+-- What each answer to a query leaves behind where the candidate list is a row of records. By the lines of a query. Assumes nothing.
+use Prim.Native.Nat.{ℕ, _≤_, _<_}
+use native.Mathlib.Omega.{arith}
+use native.Mathlib.Decide.{decLt}
+use mathlib.Core.Path.{_≡_, refl, sym, ap, _∙_}
+use mathlib.Core.Bool.{Bool, true, false, not, cond}
+use mathlib.Core.List.{List, _++_, map-append}
+use lib.Dec.{T, ltb}
+use lib.IntN.{ℤ}
+use lib.ListN.{length, drop, length-map}
+use borrow.Author.Tests.{lt-ltb, le-ltb, le-leb, lt-leb}
+use Rattle.grid.specs.Word.{natOf}
+use Rattle.grid.specs.Site.{Site}
+use Rattle.order.specs.Lists.{one}
+use Rattle.order.proofs.Lists.{by-leb}
+use Rattle.table.specs.declared.given.Given.{Given}
+use Rattle.table.specs.declared.given.Given.the-variants.{Done, FewAnswers}
+use Rattle.table.specs.Words.{Words}
+use Rattle.change.proofs.Shares.{map-drop}
+use Rattle.filter.specs.Query.{Record, recordsFound, answersFound, laidOver}
+use Rattle.filter.specs.declared.query.Reply.{Reply}
+use Rattle.filter.proofs.Rows.{laid-length}
+use Rattle.row.specs.declared.record.Candidate.{Candidate}
+use Rattle.row.specs.Records.{recordOfCandidate, recordsOf}
+use Rattle.row.specs.Asked.{candidatesFound, Listed}
+use Rattle.row.proofs.Outcome.{records-found}
+use Rattle.desk.specs.Refusals.{queryGives}
+use Rattle.desk.specs.Calls.{afterQuery}
+use Rattle.desk.specs.Lent.{nAlone, allThree, told}
+use Rattle.desk.specs.Listed.{refuses, listAfter, AnswersIn}
+use Rattle.desk.proofs.Given.{by-given, if-refused, if-not-few}
+use Rattle.desk.proofs.CallQuery.{answersTold, query-early, not-few, query-late, after-refused, queried-ext, counts-ext}
+
+true-not-false : true ≡ false → ⊥
+true-not-false e =
+    let z : _≡_ {A = ℕ} 1 0 = ap one e in
+    omega arith
+
+-- how a test of the machine came out
+pub is-true : (b : Bool) → T b → b ≡ true
+is-true true h = refl
+is-true false h = absurd h
+
+pub is-false : (b : Bool) → T (not b) → b ≡ false
+is-false true h = absurd h
+is-false false h = refl
+
+-- a refusal is not done, and what is no refusal is
+pub refused-not-done : (g : Given) → refuses g ≡ true → g ≡ Done → ⊥
+refused-not-done g r e = true-not-false (sym r ∙ ap refuses e)
+
+pub not-refused-done : (g : Given) → refuses g ≡ false → g ≡ Done
+not-refused-done g r = by-given g (λ e. e) (λ e. absurd (true-not-false (sym (ap refuses e) ∙ r))) (λ p. absurd (true-not-false (sym (p .done false true) ∙ r)))
+
+module _ (ws : Words) (q : Site) (k : ℤ) where
+  -- a refusal before the answers are known
+  pub list-refused : (cs : List Candidate) (out : List ℕ) {g : Given} → g ≡ queryGives ws q k (length cs) (answersTold ws q k) → (g ≡ Done → ⊥)
+      → AnswersIn ws q k cs cs out out (record { given = g; n = 0; m = 0; o = 0 })
+  unfolding listAfter
+  list-refused cs out {g} e d =
+      let h = query-early ws q k (length cs) e d (length out) in
+      let f = not-few ws q k (length cs) e in
+      record {
+        says = after-refused ws q k (recordsOf cs) out (h ∙ ap (λ m. queryGives ws q k m (length out)) (sym (length-map cs recordOfCandidate))) d f;
+        list = rw (← h) (sym (if-refused g d _ _ ∙ if-not-few g f _ _));
+      }
+
+  module _ (before after : List Candidate) (old new : List ℕ) (reply : Reply) (r : Listed ws q (natOf k) before after old new reply)
+      {g : Given} (e : g ≡ queryGives ws q k (length before) (answersTold ws q k)) (done : g ≡ Done) where
+    last : queryGives ws q k (length before) (length old) ≡ cond (ltb (length old) (reply .n)) FewAnswers Done
+    last =
+        query-late ws q k (length before) e done (length old)
+        ∙ ap (λ m. cond (ltb (length old) m) FewAnswers Done) (sym (r .n))
+
+    -- the candidates stand in the list
+    recorded : recordsOf after ≡ laidOver (recordsFound ws q (natOf k)) (recordsOf before)
+    recorded =
+        let cs = candidatesFound ws q (natOf k) in
+        ap recordsOf (r .candidates)
+        ∙ map-append recordOfCandidate cs (drop (length cs) before)
+        ∙ ap (λ (l : List Record). recordsOf cs ++ l) (map-drop recordOfCandidate (length cs) before ∙ ap (λ (n : ℕ). drop n (recordsOf before)) (sym (length-map cs recordOfCandidate)))
+        ∙ ap (λ (l : List Record). laidOver l (recordsOf before)) (records-found ws q (natOf k))
+
+    module _ {h : Given} (given : queryGives ws q k (length before) (length old) ≡ h) where
+      given-records : queryGives ws q k (length (recordsOf before)) (length old) ≡ h
+      given-records = ap (λ m. queryGives ws q k m (length old)) (length-map before recordOfCandidate) ∙ given
+
+    -- the answer list is as long as it was
+    new-length : length new ≡ length old
+    new-length =
+        let found = answersFound ws q (natOf k) in
+        ap length (r .answers)
+        ∙ by-leb (λ b. length (cond b (laidOver found old) old) ≡ length old) (length found) (length old) (λ h. laid-length found old h) (λ h. refl)
+
+    -- one that is too short stays, and m and o are not told
+    list-few : length new < reply .n → AnswersIn ws q k before after old new (nAlone (reply .n))
+    unfolding afterQuery listAfter
+    list-few short =
+        let h : queryGives ws q k (length before) (length old) ≡ FewAnswers = last ∙ rw (lt-ltb (length old) (reply .n) (omega (arith, new-length))) in
+        let kept : new ≡ old = r .answers ∙ rw (lt-leb (answersTold ws q k) (length old) (omega (arith, new-length, r .n))) in
+        record {
+          says = rw (given-records h) (queried-ext refl (counts-ext (r .n) refl refl) recorded kept);
+          list = rw h (r .candidates);
+        }
+
+    list-done : reply .n ≤ length new → AnswersIn ws q k before after old new (allThree reply)
+    unfolding afterQuery listAfter
+    list-done enough =
+        let h : queryGives ws q k (length before) (length old) ≡ Done = last ∙ rw (le-ltb (length old) (reply .n) (omega (arith, new-length))) in
+        let laid : new ≡ laidOver (answersFound ws q (natOf k)) old =
+        r .answers ∙ rw (le-leb (answersTold ws q k) (length old) (omega (arith, new-length, r .n))) in
+        record {
+          says = rw (given-records h) (queried-ext refl (counts-ext (r .n) (r .m) (r .o)) recorded laid);
+          list = rw h (r .candidates);
+        }
+
+    pub list-told : AnswersIn ws q k before after old new (told reply (length old))
+    list-told = go (decLt (length new) (reply .n))
+      where
+        go : Dec (length new < reply .n) → AnswersIn ws q k before after old new (told reply (length old))
+        go (yes l) = rw (lt-ltb (length old) (reply .n) (omega (arith, new-length))) (list-few l)
+        go (no l) =
+            let h : reply .n ≤ length new = omega arith in
+            rw (le-ltb (length old) (reply .n) (omega (arith, new-length))) (list-done h)

@@ -1,0 +1,60 @@
+// The records are read back, and those that pass the final test are kept.
+ghost use mathlib.Core.Path.{_≡_};
+ghost use mathlib.Core.Bool.{true, cond};
+ghost use Prim.Native.Nat.{_+_, _<_};
+ghost use lib.ListN.{length, set, take};
+ghost use Rattle.grid.specs.Word.{natOf};
+ghost use Rattle.table.specs.Stations.{isPoint};
+ghost use Rattle.filter.specs.Query.{laidOver};
+ghost use Rattle.row.specs.Tested.{entryOf, passesAs, numbersPassing, Checked, Keepable};
+use crate::record::Candidate;
+use crate::record::record_at;
+use filter::test::passes;
+use grid::border;
+use grid::place::Place;
+
+// If the candidate passes, its number goes to place n of `kept`; gives back the next free place.
+fn noted(table: &[i32], c: Candidate, k: usize, kept: &mut [u32], n: usize) -> usize
+    requires { ⌜ Checked (now table) × (isPoint (entryOf c) ≡ true) × (n < length (now kept)) ⌝ }
+    ensures { λ r.
+        ⌜
+        (r ≡ cond (passesAs (now (table .entry)) k c) (n + 1) n)
+        × (now (kept .exit) ≡ cond (passesAs (now (table .entry)) k c) (set (now (kept .entry)) n (natOf (c .number))) (now (kept .entry)))
+        ⌝ }
+{
+    let number = border::natural(c.number);
+    let p = Place {
+        x: border::steps(c.x),
+        y: border::steps(c.y),
+    };
+    if !passes(table, number, p, c.square, k) {
+        return n;
+    }
+    kept[n] = number as u32;
+    n + 1
+}
+
+// The numbers of the first m records that pass go to the front of `kept`, in the order found; gives back how many.
+pub fn keep_passing(
+    table: &[i32],
+    list: &[Candidate],
+    m: usize,
+    k: usize,
+    kept: &mut [u32],
+) -> usize
+    requires { ⌜ Keepable (now table) (now list) m (length (now kept)) ⌝ }
+    ensures { λ r.
+        ⌜
+        (r ≡ length (numbersPassing (now (table .entry)) k (take m (now (list .entry)))))
+        × (now (kept .exit) ≡ laidOver (numbersPassing (now (table .entry)) k (take m (now (list .entry)))) (now (kept .entry)))
+        ⌝ }
+{
+    let mut n = 0;
+    let mut i = 0;
+    while i < m {
+        let c = record_at(list, i);
+        n = noted(table, c, k, kept, n);
+        i += 1;
+    }
+    n
+}

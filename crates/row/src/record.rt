@@ -1,0 +1,27 @@
+// A record of the candidate list: put in its place, and read back.
+ghost use mathlib.Core.Path.{_≡_};
+ghost use Prim.Native.Nat.{_<_};
+ghost use lib.ListN.{length, set, getD};
+ghost use Rattle.row.specs.Records.{none};
+
+pub struct Candidate {
+    pub number: i32,
+    pub x: i32,
+    pub y: i32,
+    // The squared distance to the query's place.
+    pub square: u64,
+}
+
+pub fn append(list: &mut [Candidate], at: usize, c: Candidate)
+    requires { ⌜ at < length (now list) ⌝ }
+    ensures { λ _. ⌜ now (list .exit) ≡ set (now (list .entry)) at c ⌝ }
+{
+    list[at] = c;
+}
+
+pub fn record_at(list: &[Candidate], at: usize) -> Candidate
+    requires { ⌜ at < length (now list) ⌝ }
+    ensures { λ r. ⌜ r ≡ getD (now (list .entry)) at none ⌝ }
+{
+    list[at]
+}
