@@ -33,7 +33,7 @@ use Rattle.filter.proofs.Rising.{filter-append, filter-none, perm-filte
 use Rattle.filter.proofs.Steps.{Hidden, Step, step-few, step-all, step-walk}
 use Rattle.audit.proofs.Tests.{and-left, and-right, by-test}
 use Rattle.audit.proofs.Joined.{all-then, nodup-left, nodup-apart}
-use Rattle.audit.proofs.Reading.{Point, point, good-root, stored-level}
+use Rattle.audit.proofs.Reading.{Point, point, good-root, stored-level, held-points}
 use Rattle.audit.proofs.Held.{held-stations, not-empty}
 use Rattle.audit.proofs.WellFormed.{well-formed-tree}
 
@@ -209,8 +209,23 @@ module _ (ws : Words) (e : isEmpty ws ≡ true) (q : Site) (k : ℕ) where
 
 -- ---- every well-formed table
 
-pub query-right : (ws : Words) → length ws ≡ LENGTH → All IsWord ws → wellFormed ws ≡ true → (q : Site) → SiteOnGrid q → (k : ℕ)
-    → answersFound ws q k ≡ answer (stations ws) q k
-query-right ws long fits w q g k =
-    by-test (isEmpty ws) (λ e. answers-empty ws e q k ∙ sym (answer-empty ws e q k))
-    (λ e. let t = well-formed-tree ws long fits w e in answers-right ws (t .level) (t .tree) (t .holds) (t .sound) q g k)
+module _ (ws : Words) (long : length ws ≡ LENGTH) (fits : All IsWord ws) (w : wellFormed ws ≡ true) (q : Site) (g : SiteOnGrid q) (k : ℕ) where
+  -- the candidates are points
+  pub found-points : All (λ e. isPoint e ≡ true) (found ws q k .candidates)
+  found-points =
+      by-test (isEmpty ws) (λ e. rw (found-empty ws e q k) tt)
+      (λ e. let t = well-formed-tree ws long fits w e in candidates-points ws (t .level) (t .tree) (t .holds) (t .sound) q g k)
+
+  -- no more than there are
+  pub found-few : length (found ws q k .candidates) ≤ pointsOf ws
+  found-few =
+      by-test (isEmpty ws) (λ e. rw (found-empty ws e q k) (omega arith))
+      (λ e.
+      let t = well-formed-tree ws long fits w e in
+      omega (arith, candidates-few ws (t .level) (t .tree) (t .holds) (t .sound) q g k, held-points (t .holds)))
+
+  -- the answers are those of the meaning
+  pub query-right : answersFound ws q k ≡ answer (stations ws) q k
+  query-right =
+      by-test (isEmpty ws) (λ e. answers-empty ws e q k ∙ sym (answer-empty ws e q k))
+      (λ e. let t = well-formed-tree ws long fits w e in answers-right ws (t .level) (t .tree) (t .holds) (t .sound) q g k)

@@ -12,5 +12,3 @@ pub mod Meaning
 pub mod Testing
 pub mod Inserting
 pub mod Listing
-pub mod Replies
-pub mod Records

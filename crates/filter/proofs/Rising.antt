@@ -3,7 +3,7 @@ use Prim.Native.Nat.{ℕ, _<_}
 use native.Mathlib.Omega.{arith}
 use mathlib.Core.Path.{_≡_, refl, sym, ap, _∙_}
 use mathlib.Core.Bool.{Bool, false, cond}
-use mathlib.Core.List.{List, [], _∷_, _++_}
+use mathlib.Core.List.{List, [], _∷_, _++_, map}
 use native.Mathlib.Decide.{decLe, decLt}
 use borrow.Author.Tests.{le-leb, lt-leb}
 use Rattle.order.specs.Lists.{filter, All}
@@ -36,6 +36,17 @@ perm-filter P (pswap x y xs) =
     (λ e. by-bool (λ b. Perm (x ∷ cond b (y ∷ f) f) (cond b (y ∷ x ∷ f) (x ∷ f))) (P y) (λ e. pswap x y f) (λ e. prefl (x ∷ f)))
     (λ e. prefl (cond (P y) (y ∷ f) f))
 perm-filter P (ptrans p r) = ptrans (perm-filter P p) (perm-filter P r)
+
+pub filter-map : {A B : Type 0} (P : B → Bool) (f : A → B) (xs : List A) → filter P (map f xs) ≡ map f (filter (λ x. P (f x)) xs)
+filter-map P f [] = refl
+filter-map P f (x ∷ xs) =
+    let ih = filter-map P f xs in
+    by-bool (λ b. cond b (f x ∷ filter P (map f xs)) (filter P (map f xs)) ≡ map f (cond b (x ∷ filter (λ y. P (f y)) xs) (filter (λ y. P (f y)) xs))) (P (f x))
+    (λ e. ap (λ l. f x ∷ l) ih) (λ e. ih)
+
+pub filter-same : {A : Type 0} (P Q : A → Bool) (xs : List A) → All (λ x. P x ≡ Q x) xs → filter P xs ≡ filter Q xs
+filter-same P Q [] h = refl
+filter-same P Q (x ∷ xs) h = rw (h .0, filter-same P Q xs (h .1))
 
 -- ---- numbers
 

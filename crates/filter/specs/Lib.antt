@@ -4,4 +4,3 @@ pub mod Query
 pub mod Rows
 pub mod Passable
 pub mod Test
-pub mod Reply

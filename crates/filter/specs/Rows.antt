@@ -1,10 +1,10 @@
 -- The candidate list as it is lent: four rows of words, for the number, x, y and the squared distance to q of each candidate.
-use Prim.Native.Nat.{ℕ, _≤_, _<_, _^_, min}
+use Prim.Native.Nat.{ℕ, _≤_, _<_, _^_}
 use mathlib.Core.Path.{_≡_}
 use mathlib.Core.Bool.{true}
 use mathlib.Core.List.{List, map}
 use lib.IntN.{ℤ, pos}
-use lib.ListN.{length, getD}
+use lib.ListN.{length}
 use Rattle.grid.specs.Word.{stepsOf, wordOf, natOf}
 use Rattle.grid.specs.declared.place.Place.{Place}
 use Rattle.grid.specs.Place.{PlaceOnGrid, dist², spotOf}
@@ -15,7 +15,7 @@ use Rattle.table.specs.Words.{word}
 use Rattle.table.specs.Stations.{isPoint}
 use Rattle.filter.specs.declared.seen.Seen.{Seen}
 use Rattle.filter.specs.Walk.{Found, spotIn}
-use Rattle.filter.specs.Query.{Record, laidOver}
+use Rattle.filter.specs.Query.{laidOver}
 
 pub record Rows : Type 0 where
   pub numbers : List ℤ
@@ -25,18 +25,6 @@ pub record Rows : Type 0 where
 
 abbrev pub rows : List ℤ → List ℤ → List ℤ → List ℕ → Rows
 rows ns xs ys ss = record { numbers = ns; xs = xs; ys = ys; squares = ss }
-
--- what the rows say of candidate i
-abbrev pub recordAt : Rows → ℕ → Record
-recordAt r i = record { number = natOf (word (r .numbers) i); x = word (r .xs) i; y = word (r .ys) i; square = getD (r .squares) i 0 }
-
--- the list is as long as its shortest row
-abbrev pub lengthIn : Rows → ℕ
-lengthIn r = min (min (length (r .numbers)) (length (r .xs))) (min (length (r .ys)) (length (r .squares)))
-
--- the list of records that the rows are
-unfoldable pub recordsIn : Rows → List Record
-recordsIn r = map (recordAt r) (upFrom 0 (lengthIn r))
 
 -- the place of candidate i
 abbrev pub placeIn : List ℤ → List ℤ → ℕ → Place

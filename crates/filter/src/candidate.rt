@@ -1,34 +1,19 @@
 // The candidate list, as four lent rows: it takes one more candidate.
 ghost use mathlib.Core.Path.{_≡_};
 ghost use mathlib.Core.Bool.{true};
-ghost use Prim.Native.Nat.{_<_, min};
+ghost use Prim.Native.Nat.{_<_};
 ghost use lib.IntN.{pos};
 ghost use lib.ListN.{length, set};
 ghost use Rattle.grid.specs.Word.{wordOf};
 ghost use Rattle.grid.specs.Place.{PlaceOnGrid, dist²};
 ghost use Rattle.table.specs.Stations.{isPoint};
 ghost use Rattle.filter.specs.Walk.{spotIn, visited};
-ghost use Rattle.filter.specs.Rows.{rows, lengthIn, Ready, Went};
+ghost use Rattle.filter.specs.Rows.{rows, Ready, Went};
 use crate::discard::hides_point;
 use crate::seen::Seen;
 use grid::border;
 use grid::place::Place;
 use table::node::Entry;
-
-fn shorter(a: usize, b: usize) -> usize
-    ensures { λ r. ⌜ r ≡ min a b ⌝ }
-{
-    if a < b { a } else { b }
-}
-
-// The candidate list is as long as its shortest row.
-pub fn list_length(numbers: &[i32], xs: &[i32], ys: &[i32], squares: &[u64]) -> usize
-    ensures { λ r. ⌜ r ≡ lengthIn (rows (now (numbers .entry)) (now (xs .entry)) (now (ys .entry)) (now (squares .entry))) ⌝ }
-{
-    let a = shorter(numbers.len(), xs.len());
-    let b = shorter(ys.len(), squares.len());
-    shorter(a, b)
-}
 
 // Record `at` becomes that of the point.
 fn note(

@@ -1,4 +1,4 @@
-// The reverse k-nearest query on a well-formed table: the filter walk, the final test, the answer list.
+// The parts of the reverse k-nearest query on a well-formed table: the filter walk over four plain rows, the final test of a candidate, the answer list.
 // It promises the candidates, the opened nodes and the answers of the definitions in specs/.
 // It stands on table (nodes and slots), grid (distances) and order (the stable order); its proofs stand on audit (what a well-formed table stores).
 pub mod answering;
@@ -6,7 +6,6 @@ pub mod candidate;
 pub mod discard;
 pub mod find;
 pub mod nearest;
-pub mod query;
 pub mod seen;
 pub mod test;
 pub mod walk;

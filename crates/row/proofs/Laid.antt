@@ -1,28 +1,22 @@
 -- The loop that hands the candidates over: what stands in the list after i turns. Assumes nothing.
-use Prim.Native.Nat.{ℕ, zero, suc, _+_, _<_}
+use Prim.Native.Nat.{ℕ, _+_, _<_}
 use native.Mathlib.Omega.{arith}
-use native.Mathlib.Numerals.{add-one}
 use mathlib.Core.Path.{_≡_, refl, sym, ap, _∙_}
 use mathlib.Core.List.{List, [], _∷_, _++_, map, map-append}
 use lib.ListN.{length, set, length-map}
 use Rattle.order.specs.Order.{upFrom}
 use Rattle.order.proofs.Order.{up-length}
+use Rattle.audit.proofs.Counted.{up-append}
 use Rattle.filter.specs.Query.{laidOver}
 use Rattle.filter.specs.Rows.{Rows}
 use Rattle.filter.proofs.Rows.{laid-set}
 use Rattle.row.specs.declared.record.Candidate.{Candidate}
 use Rattle.row.specs.Records.{candidateIn, candidatesIn}
 
-up-last : (a n : ℕ) → upFrom a (suc n) ≡ upFrom a n ++ (a + n) ∷ []
-up-last a zero = ap (λ (x : ℕ). x ∷ []) (omega arith)
-up-last a (suc n) =
-    let k : suc a + n ≡ a + suc n = omega arith in
-    ap (λ (x : List ℕ). a ∷ x) (up-last (suc a) n) ∙ ap (λ (x : ℕ). a ∷ upFrom (suc a) n ++ x ∷ []) k
-
 pub map-more : {A : Type 0} (f : ℕ → A) (i : ℕ) → map f (upFrom 0 (i + 1)) ≡ map f (upFrom 0 i) ++ f i ∷ []
 map-more f i =
     let z : 0 + i ≡ i = omega arith in
-    rw (add-one i) (ap (map f) (up-last 0 i ∙ ap (λ (n : ℕ). upFrom 0 i ++ n ∷ []) z) ∙ map-append f (upFrom 0 i) (i ∷ []))
+    ap (map f) (up-append 0 i 1 ∙ ap (λ (n : ℕ). upFrom 0 i ++ n ∷ []) z) ∙ map-append f (upFrom 0 i) (i ∷ [])
 
 module _ (r : Rows) where
   pub candidates-many : (m : ℕ) → length (candidatesIn r m) ≡ m

@@ -2,8 +2,8 @@
 use Prim.Native.Nat.{ℕ, _≤_, _<_}
 use native.Mathlib.Omega.{arith}
 use mathlib.Core.Path.{_≡_, refl, sym, ap, _∙_}
-use mathlib.Core.Bool.{Bool, true, cond, _&&_}
-use mathlib.Core.List.{List, [], _∷_, map, map-map}
+use mathlib.Core.Bool.{true, cond, _&&_}
+use mathlib.Core.List.{List, map, map-map}
 use lib.Dec.{leb, eqb}
 use lib.IntN.{pos}
 use lib.ListN.{length, getD, take, drop, length-map, length-append, List·getD-append}
@@ -17,7 +17,7 @@ use Rattle.grid.proofs.Rects.{place-ext}
 use Rattle.grid.proofs.Site.{SiteOnGrid}
 use Rattle.order.specs.Lists.{filter, every, All}
 use Rattle.order.specs.Order.{upFrom}
-use Rattle.order.proofs.Lists.{by-bool, all-at, map-at}
+use Rattle.order.proofs.Lists.{all-at, map-at}
 use Rattle.order.proofs.Order.{pick-all, up-all}
 use Rattle.table.specs.declared.node.Entry.{Entry}
 use Rattle.table.specs.Figures.{MOST}
@@ -37,10 +37,11 @@ use Rattle.filter.specs.Walk.{spotIn}
 use Rattle.filter.specs.Query.{found, stationIn, recordsFound, answersFound, laidOver}
 use Rattle.filter.specs.Rows.{Rows, laidIn, Room, Noted}
 use Rattle.filter.specs.Test.{passes}
-use Rattle.filter.proofs.Answers.{candidates-few, found-empty}
-use Rattle.filter.proofs.Rows.{laid-length, map-both, row-at}
+use Rattle.filter.proofs.Answers.{found-points, found-few}
+use Rattle.filter.proofs.Rising.{filter-map, filter-same}
+use Rattle.filter.proofs.Rows.{laid-length, map-both, row-at, rows-room}
+use Rattle.filter.proofs.Turns.{room-less}
 use Rattle.filter.proofs.Listing.{rising-length}
-use Rattle.filter.proofs.Replies.{found-points, found-testable}
 use Rattle.filter.proofs.Testing.{passes-answers}
 use Rattle.row.specs.declared.record.Candidate.{Candidate}
 use Rattle.row.specs.Records.{none, recordsOf, candidateIn, candidatesIn}
@@ -49,17 +50,6 @@ use Rattle.row.specs.Asked.{candidateOf, candidatesFound, Filled, Listed
 
 candidate-ext : {c d : Candidate} → c .number ≡ d .number → c .x ≡ d .x → c .y ≡ d .y → c .square ≡ d .square → c ≡ d
 candidate-ext n x y s = λ i. record { number = n i; x = x i; y = y i; square = s i }
-
-filter-map : {A B : Type 0} (P : B → Bool) (f : A → B) (xs : List A) → filter P (map f xs) ≡ map f (filter (λ x. P (f x)) xs)
-filter-map P f [] = refl
-filter-map P f (x ∷ xs) =
-    let ih = filter-map P f xs in
-    by-bool (λ b. cond b (f x ∷ filter P (map f xs)) (filter P (map f xs)) ≡ map f (cond b (x ∷ filter (λ y. P (f y)) xs) (filter (λ y. P (f y)) xs))) (P (f x))
-    (λ e. ap (λ l. f x ∷ l) ih) (λ e. ih)
-
-filter-same : {A : Type 0} (P Q : A → Bool) (xs : List A) → All (λ x. P x ≡ Q x) xs → filter P xs ≡ filter Q xs
-filter-same P Q [] h = refl
-filter-same P Q (x ∷ xs) h = rw (h .0, filter-same P Q xs (h .1))
 
 empty-points : (ws : Words) → isEmpty ws ≡ true → pointsOf ws ≡ 0
 unfolding isEmpty
@@ -77,12 +67,8 @@ module _ {ws : Words} (t : Checked ws) where
       (λ e. let h = well-formed-tree ws (t .long) (t .words) (t .rules) e in omega (arith, held-points (h .holds), h .sound .few))
 
   module _ (q : Site) (g : SiteOnGrid q) (k : ℕ) where
-    found-few : length (found ws q k .candidates) ≤ pointsOf ws
-    found-few =
-        by-test (isEmpty ws) (λ e. rw (found-empty ws e q k) (omega arith))
-        (λ e.
-        let h = well-formed-tree ws (t .long) (t .words) (t .rules) e in
-        omega (arith, candidates-few ws (h .level) (h .tree) (h .holds) (h .sound) q g k, held-points (h .holds)))
+    few : length (found ws q k .candidates) ≤ pointsOf ws
+    few = found-few ws (t .long) (t .words) (t .rules) q g k
 
     points : All (λ e. isPoint e ≡ true) (found ws q k .candidates)
     points = found-points ws (t .long) (t .words) (t .rules) q g k
@@ -112,7 +98,7 @@ module _ {ws : Words} (t : Checked ws) where
 
       pub hand-room : Room (pointsOf ws) before → (places : ℕ) → pointsOf ws ≤ places → Room (s .candidates) after × s .candidates ≤ places
       hand-room room places h =
-          (found-testable ws (t .long) (t .words) (t .rules) q g k n room .room, omega (arith, n .candidates, found-few))
+          (rw (n .candidates, n .rows) (rows-room (placeOf q) (found ws q k .candidates) before _ (omega arith) (room-less few room)), omega (arith, n .candidates, few))
 
       pub filled : (old new : List Candidate) → new ≡ laidOver (candidatesIn after (s .candidates)) old → Filled ws q k old new s
       filled old new e = record { list = e ∙ ap (λ l. laidOver l old) candidates-are; candidates = n .candidates; opened = n .opened }
@@ -152,7 +138,7 @@ module _ {ws : Words} (t : Checked ws) where
       many = length-map (found ws q k .candidates) (candidateOf q) ∙ sym (f .candidates)
 
       long : length list ≡ length before
-      long = ap length (f .list) ∙ laid-length (candidatesFound ws q k) before (omega (arith, many, f .candidates, found-few))
+      long = ap length (f .list) ∙ laid-length (candidatesFound ws q k) before (omega (arith, many, f .candidates, few))
 
       pub front : take (s .candidates) list ≡ candidatesFound ws q k
       front = ap (take (s .candidates)) (f .list) ∙ take-at (candidatesFound ws q k) _ (s .candidates) many
@@ -168,12 +154,12 @@ module _ {ws : Words} (t : Checked ws) where
       pub keepable : (free : ℕ) → MOST ≤ free → Keepable ws list (s .candidates) free
       keepable free h = record {
         table = t;
-        room = omega (arith, long, f .candidates, found-few);
+        room = omega (arith, long, f .candidates, few);
         points = λ i l.
             let cs = found ws q k .candidates in
             let p = all-at (λ e. isPoint e ≡ true) cs i blankEntry (omega (arith, f .candidates)) points in
             ap (λ (c : Candidate). isPoint (entryOf c)) (record-back i l) ∙ ap isPoint (entry-back (getD cs i blankEntry) p) ∙ p;
-        places = omega (arith, f .candidates, found-few, points-most);
+        places = omega (arith, f .candidates, few, points-most);
       }
 
       abbrev kept-numbers : List ℕ

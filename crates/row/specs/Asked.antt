@@ -11,11 +11,11 @@ use Rattle.grid.specs.Site.{Site, placeOf}
 use Rattle.grid.specs.Place.{dist²}
 use Rattle.table.specs.declared.node.Entry.{Entry}
 use Rattle.table.specs.Words.{Words, pointsOf}
-use Rattle.filter.specs.declared.query.Reply.{Reply}
 use Rattle.filter.specs.declared.seen.Seen.{Seen}
 use Rattle.filter.specs.Walk.{spotIn}
 use Rattle.filter.specs.Query.{found, answersFound, laidOver}
 use Rattle.row.specs.declared.record.Candidate.{Candidate}
+use Rattle.row.specs.declared.answer.Reply.{Reply}
 use Rattle.row.specs.Tested.{Checked}
 
 -- the record of a candidate: point number, x, y, squared distance to q

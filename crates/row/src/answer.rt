@@ -11,9 +11,15 @@ use crate::fill::fill;
 use crate::keep::keep_passing;
 use crate::record::Candidate;
 use filter::answering::put_rising;
-use filter::query::Reply;
 use filter::seen::Seen;
 use table::figures::Table;
+
+// n answers, m candidates, o nodes opened.
+pub struct Reply {
+    pub n: usize,
+    pub m: usize,
+    pub o: usize,
+}
 
 // Room for the numbers of as many candidates as a table has points.
 fn numbers() -> [u32; Table::MOST] {
@@ -21,7 +27,7 @@ fn numbers() -> [u32; Table::MOST] {
 }
 
 // The n numbers kept go in rising order to the answer list; a list that is shorter than n stays as it was.
-fn reply(seen: Seen, n: usize, kept: [u32; Table::MOST], answers: &mut [u32]) -> Reply
+fn put_answers(seen: Seen, n: usize, kept: [u32; Table::MOST], answers: &mut [u32]) -> Reply
     requires { ⌜ n ≤ length kept ⌝ }
     ensures { λ r.
         ⌜
@@ -59,5 +65,5 @@ pub fn answer(
     let m = seen.candidates;
     let mut kept = numbers();
     let n = keep_passing(table, list, m, k, &mut kept);
-    reply(seen, n, kept, answers)
+    put_answers(seen, n, kept, answers)
 }

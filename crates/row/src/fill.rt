@@ -1,5 +1,4 @@
 // The filter walk of a query, whose candidates go to the list of records.
-ghost use mathlib.Core.Path.{_≡_};
 ghost use lib.ListN.{length};
 ghost use Rattle.row.specs.Asked.{Askable, Filled};
 use crate::hand::hand_over;

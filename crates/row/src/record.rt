@@ -4,6 +4,8 @@ ghost use Prim.Native.Nat.{_<_};
 ghost use lib.ListN.{length, set, getD};
 ghost use Rattle.row.specs.Records.{none};
 
+// Laid out for C and Rust programs too.
+#[repr(C)]
 pub struct Candidate {
     pub number: i32,
     pub x: i32,

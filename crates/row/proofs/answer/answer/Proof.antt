@@ -50,14 +50,14 @@ use denote.Exit.{yes}
 use Rattle.grid.specs.Site.{Site}
 use Rattle.grid.proofs.Site.{SiteOnGrid}
 use Rattle.filter.specs.declared.seen.Seen.{Seen}
-use Rattle.filter.specs.declared.query.Reply.{Reply}
 use Rattle.filter.specs.Meaning.{rising}
 use Rattle.filter.specs.Query.{laidOver}
 use Rattle.filter.proofs.seen.Seen as S
 use Rattle.filter.proofs.seen.Seen.Laws as S′
-use Rattle.filter.proofs.query.Reply as P
-use Rattle.filter.proofs.query.Reply.Laws as P′
 use Rattle.row.specs.declared.record.Candidate.{Candidate}
+use Rattle.row.specs.declared.answer.Reply.{Reply}
+use Rattle.row.proofs.answer.Reply as P
+use Rattle.row.proofs.answer.Reply.Laws as P′
 use Rattle.row.specs.Tested.{numbersPassing, Keepable}
 use Rattle.row.specs.Asked.{Askable, Filled, Listed}
 use Rattle.row.proofs.record.Candidate as T
@@ -78,10 +78,10 @@ use Rattle.row.proofs.answer.numbers as numbers
 use Rattle.row.proofs.answer.numbers.Symbol as numbers-def
 use Rattle.row.proofs.answer.numbers.Symbol.{name as #row·answer·numbers}
 use Rattle.row.proofs.answer.numbers.Met as numbers-thm
-use Rattle.row.proofs.answer.reply as reply
-use Rattle.row.proofs.answer.reply.Symbol as reply-def
-use Rattle.row.proofs.answer.reply.Symbol.{name as #row·answer·reply}
-use Rattle.row.proofs.answer.reply.Met as reply-thm
+use Rattle.row.proofs.answer.put_answers as put-answers
+use Rattle.row.proofs.answer.put_answers.Symbol as put-answers-def
+use Rattle.row.proofs.answer.put_answers.Symbol.{name as #row·answer·put-answers}
+use Rattle.row.proofs.answer.put_answers.Met as put-answers-thm
 use Rattle.row.proofs.answer.answer.Key.{name as #row·answer·answer}
 use Rattle.row.proofs.answer.answer as f
 use Rattle.row.proofs.answer.answer.Statement as stated
@@ -107,7 +107,7 @@ abbrev Keep : {M : Type 1} (𝓤 : URA M) (H : Heap 𝓤) (A : Atoms 𝓤) (mem 
 Keep 𝓤 H A mem run = tripleOf 𝓤 H A keep-passing.signature (keep-passing.spec 𝓤 H A mem run)
 
 abbrev Replies : {M : Type 1} (𝓤 : URA M) (H : Heap 𝓤) (A : Atoms 𝓤) (mem : Memory → SProp 𝓤) (run : Routine → Fun 𝓤) → Contract 𝓤
-Replies 𝓤 H A mem run = tripleOf 𝓤 H A reply.signature (reply.spec 𝓤 H A mem run)
+Replies 𝓤 H A mem run = tripleOf 𝓤 H A put-answers.signature (put-answers.spec 𝓤 H A mem run)
 
 -- what `numbers` is handed: nothing
 abbrev Nothing : Type 0
@@ -195,7 +195,7 @@ module _ {M : Type 1} (𝓤 : URA M) (H : Heap 𝓤) (A : Atoms 𝓤) (W : Given
   abbrev KeptIn : List Candidate → ℕ → List ℕ → ℕ → List ℕ → Type 0
   KeptIn zs m old c ks = (c ≡ length (numbersPassing ws k (take m zs))) × (ks ≡ laidOver (numbersPassing ws k (take m zs)) old)
 
-  -- what `reply`'s triple binds outside
+  -- what `put_answers`'s triple binds outside
   abbrev reply-args : Seen → ℕ → List ℕ → Seen × (ℕ × (List ℕ × (RefT (List ℕ) × Unit {0})))
   reply-args seen c ks = (seen, (c, (ks, (ar, tt))))
 
@@ -223,7 +223,7 @@ module _ {M : Type 1} (𝓤 : URA M) (H : Heap 𝓤) (A : Atoms 𝓤) (W : Given
       nothing ! $ move ! (3 ∷ 0 ∷ []) $ fjoin ! $ move ! (1 ∷ 0 ∷ []) $ fjoin ! $ owned ! usize (Is usize) (uint-makes 𝓤 H A W w64) k _ (refl, gk) $ fjoin ! $ owned ! i32 (Is i32) (sint-makes 𝓤 H A W w32) zy _ gy $ fjoin ! $ owned ! i32 (Is i32) (sint-makes 𝓤 H A W w32) zx _ gx $ fjoin ! $ move ! (1 ∷ 0 ∷ []) $ fjoin ! $ done !
 
   module _ (C : Calls 𝓤 H) (Λ : Loops 𝓤 H) (fm : FmC 𝓤 H (W .laws) C) (known-fill : Triple 𝓤 (C #row·fill·fill) (Fill 𝓤 H A mem run)) (known-numbers : Triple 𝓤 (C #row·answer·numbers) (Numbers 𝓤 H A mem run))
-      (known-keep : Triple 𝓤 (C #row·keep·keep-passing) (Keep 𝓤 H A mem run)) (known-reply : Triple 𝓤 (C #row·answer·reply) (Replies 𝓤 H A mem run)) where
+      (known-keep : Triple 𝓤 (C #row·keep·keep-passing) (Keep 𝓤 H A mem run)) (known-reply : Triple 𝓤 (C #row·answer·put-answers) (Replies 𝓤 H A mem run)) where
     walk : ent 𝓤 (onEntry 𝓤 H A f.signature κs qs a at) (WpFn 𝓤 H C Λ code.function (s₁ ∷ vint w32 (ofZ w32 zx) ∷ vint w32 (ofZ w32 zy) ∷ vint w64 k ∷ s ∷ s₂ ∷ []) Post)
     walk =
         qed W ((‵ (flft (κs .0) (qs .0)) ⊛ ‵ (flft (κs .1 .0) (qs .1 .0)) ⊛ ‵ (flft (κs .1 .1 .0) (qs .1 .1 .0)) ⊛ ‵ ftrue) ∷ ‵ (owns (ShrSlice (named 0) (κs .0) i32 ∷ i32 ∷ i32 ∷ usize ∷ MutSlice (named 1) (κs .1 .0) R ∷ MutSlice (named 2) (κs .1 .1 .0) u32 ∷ []) a at) ∷ []) ∵
@@ -278,8 +278,8 @@ module _ {M : Type 1} (𝓤 : URA M) (H : Heap 𝓤) (A : Atoms 𝓤) (W : Given
         assigns ! (agg ! (and-then ! (load ! (from ! (stop !)) (look ! 17 refl)) (and-then ! (load ! (from ! (fld ! refl (stop !))) (look-in ! 40 (sub ! 1 refl (whole !)))) (no-more !)))) (from ! (stop !)) (init ! 15 refl (tt, (tt, (record { fits = ra .0 }, tt)))) $
         move ! (54 ∷ 12 ∷ 4 ∷ 0 ∷ 55 ∷ []) $ group ! 5 $ use1 W (raw (Replies 𝓤 H A mem run .pre (to-reply seen (S′.lowered seen) c w₂ ks v))) (goes-reply seen (S′.lowered seen) c w₂ ks v (kept-room (pre .table) q grid k filled (pre .room) c ks ks₀ (kept .0) (kept .1))) $
         calls-at ! fm (Replies 𝓤 H A mem run) known-reply (to-reply seen (S′.lowered seen) c w₂ ks v) (and-then ! (load ! (from ! (stop !)) (look ! 36 refl)) (and-then ! (load ! (from ! (stop !)) (look ! 31 refl)) (and-then ! (load ! (from ! (stop !)) (look ! 25 refl)) (and-then ! (load ! (from ! (stop !)) (look ! 13 refl)) (no-more !))))) (λ u.
-        use1 W (later (some (λ (r : Reply). ((‵ (flft (κs .1 .1 .0) (qs .1 .1 .0)) ⊛ ‵ ftrue) ⊛ ‵ (P.the-row .own r (u ∷ []))) ⊛ raw (ensured 𝓤 H A reply.ended (reply.clauses 𝓤 H A mem run) (κs .1 .1 .0, tt) (reply-args seen c ks) tt r)))) (id⊢ 𝓤 _) $ await ! tt $ pick ! (λ r. split ! $ move ! (1 ∷ []) $
-        use1 W (some (λ (ts : Unit {0} × (Unit {0} × (Unit {0} × (List ℕ × Unit {0})))). ‵ (lasts reply.ended (κs .1 .1 .0, tt) (reply-args seen c ks) ts) ⊛ raw (fact 𝓤 (RepliedTo seen c ks (ts .1 .1 .1 .0) r)))) (id⊢ 𝓤 _) $ pick ! (λ ts. split ! $ move ! (1 ∷ []) $ heard ! (RepliedTo seen c ks (ts .1 .1 .1 .0) r) (λ told′.
+        use1 W (later (some (λ (r : Reply). ((‵ (flft (κs .1 .1 .0) (qs .1 .1 .0)) ⊛ ‵ ftrue) ⊛ ‵ (P.the-row .own r (u ∷ []))) ⊛ raw (ensured 𝓤 H A put-answers.ended (put-answers.clauses 𝓤 H A mem run) (κs .1 .1 .0, tt) (reply-args seen c ks) tt r)))) (id⊢ 𝓤 _) $ await ! tt $ pick ! (λ r. split ! $ move ! (1 ∷ []) $
+        use1 W (some (λ (ts : Unit {0} × (Unit {0} × (Unit {0} × (List ℕ × Unit {0})))). ‵ (lasts put-answers.ended (κs .1 .1 .0, tt) (reply-args seen c ks) ts) ⊛ raw (fact 𝓤 (RepliedTo seen c ks (ts .1 .1 .1 .0) r)))) (id⊢ 𝓤 _) $ pick ! (λ ts. split ! $ move ! (1 ∷ []) $ heard ! (RepliedTo seen c ks (ts .1 .1 .1 .0) r) (λ told′.
         fsplit ! $ drop ! $ fsplit ! $ drop ! $ fsplit ! $ drop ! $ fsplit ! $ fsplit ! $ move ! (1 ∷ []) $ feqL ! (λ l′. move ! (2 ∷ []) $ split ! $ split ! $ move ! (2 ∷ []) $ peeks ! P.the-row (Is P.the-row) (shows 𝓤 H A P.the-row) r (u ∷ []) (λ is₄.
         land ! (from ! (stop !)) (init ! 54 refl (LL.lawful P.the-type P′.the-laws 𝓤 H A W .typed r _ is₄ .0)) $
         returns ! (look ! 54 refl) $ forget ! 17 refl $ forget ! 19 refl $ forget ! 21 refl $ forget ! 23 refl $ forget ! 25 refl $ forget ! 27 refl $ forget ! 29 refl $ forget ! 31 refl $ forget ! 33 refl $ forget ! 35 refl $ forget ! 5 refl $ forget ! 38 refl $ forget ! 40 refl $ forget ! 42 refl $ forget ! 44 refl $ forget ! 46 refl $ forget ! 48 refl $ forget ! 50 refl $ forget ! 52 refl $ forget ! 54 refl $
@@ -288,7 +288,7 @@ module _ {M : Type 1} (𝓤 : URA M) (H : Heap 𝓤) (A : Atoms 𝓤) (W : Given
 
 module _ {M : Type 1} (𝓤 : URA M) (H : Heap 𝓤) (A : Atoms 𝓤) (W : Given 𝓤 H A) (mem : Memory → SProp 𝓤) (run : Routine → Fun 𝓤) where
   answer-walks : (C : Calls 𝓤 H) (Λ : Loops 𝓤 H) → FmC 𝓤 H (W .laws) C → Triple 𝓤 (C #row·fill·fill) (Fill 𝓤 H A mem run) → Triple 𝓤 (C #row·answer·numbers) (Numbers 𝓤 H A mem run)
-      → Triple 𝓤 (C #row·keep·keep-passing) (Keep 𝓤 H A mem run) → Triple 𝓤 (C #row·answer·reply) (Replies 𝓤 H A mem run) → Walks 𝓤 H A f.ended stayed (WpFn 𝓤 H C Λ code.function) (f.clauses 𝓤 H A mem run)
+      → Triple 𝓤 (C #row·keep·keep-passing) (Keep 𝓤 H A mem run) → Triple 𝓤 (C #row·answer·put-answers) (Replies 𝓤 H A mem run) → Walks 𝓤 H A f.ended stayed (WpFn 𝓤 H C Λ code.function) (f.clauses 𝓤 H A mem run)
   answer-walks C Λ fm known-fill known-numbers known-keep known-reply = walked 𝓤 H A f.ended stayed (f.clauses 𝓤 H A mem run) (WpFn 𝓤 H C Λ code.function)
       (λ κs. (slice-vals, (sint-vals w32, (sint-vals w32, (uint-vals w64, (slice-vals, (slice-vals, tt)))))))
       (λ κs. (shr-slice-tells (named 0) (κs .0) i32, (sint-tells w32, (sint-tells w32, (uint-tells w64, (mut-slice-tells (named 1) (κs .1 .0) R, (mut-slice-tells (named 2) (κs .1 .1 .0) u32, tt)))))))
@@ -297,7 +297,7 @@ module _ {M : Type 1} (𝓤 : URA M) (H : Heap 𝓤) (A : Atoms 𝓤) (W : Given
       (are .0 .0 .1) (are .1 .0) (are .1 .1 .0) (are .1 .1 .1 .0 .1) (are .1 .1 .1 .1 .0 .0 .1) (are .1 .1 .1 .1 .1 .0 .0 .1) pre C Λ fm known-fill known-numbers known-keep known-reply))
 
 answer-meets : {M : Type 1} (𝓤 : URA M) (H : Heap 𝓤) (A : Atoms 𝓤) → Given 𝓤 H A → (mem : Memory → SProp 𝓤) (run : Routine → Fun 𝓤) (𝓣 : Tables 𝓤 H) → Triple 𝓤 (𝓣 .C #row·fill·fill) (Fill 𝓤 H A mem run) → Triple 𝓤 (𝓣 .C #row·answer·numbers) (Numbers 𝓤 H A mem run)
-    → Triple 𝓤 (𝓣 .C #row·keep·keep-passing) (Keep 𝓤 H A mem run) → Triple 𝓤 (𝓣 .C #row·answer·reply) (Replies 𝓤 H A mem run) → Meets 𝓤 H A f.signature (WpFn 𝓤 H (𝓣 .C) (𝓣 .Λ) code.function) (f.spec 𝓤 H A mem run)
+    → Triple 𝓤 (𝓣 .C #row·keep·keep-passing) (Keep 𝓤 H A mem run) → Triple 𝓤 (𝓣 .C #row·answer·put-answers) (Replies 𝓤 H A mem run) → Meets 𝓤 H A f.signature (WpFn 𝓤 H (𝓣 .C) (𝓣 .Λ) code.function) (f.spec 𝓤 H A mem run)
 answer-meets 𝓤 H A W mem run 𝓣 known-fill known-numbers known-keep known-reply =
     walk-meets 𝓤 H A f.ended stayed W (
       goes-none-slice 𝓤 H A W 3 (0 ∷ []) tt (plain (λ _. i32)) yes,
@@ -314,4 +314,4 @@ answer-spec 𝓤 H 𝓜 𝓖 𝓡 =
     (cited 𝓤 H (Fill 𝓤 H (𝓖 .A) (𝓜 .mem) (𝓡 .run)) 𝓜 𝓡 code.env #row·fill·fill fill-def.routine code.calls-row·fill·fill (fill-thm.met 𝓤 H 𝓜 𝓖 𝓡))
     (cited 𝓤 H (Numbers 𝓤 H (𝓖 .A) (𝓜 .mem) (𝓡 .run)) 𝓜 𝓡 code.env #row·answer·numbers numbers-def.routine code.calls-row·answer·numbers (numbers-thm.met 𝓤 H 𝓜 𝓖 𝓡))
     (cited 𝓤 H (Keep 𝓤 H (𝓖 .A) (𝓜 .mem) (𝓡 .run)) 𝓜 𝓡 code.env #row·keep·keep-passing keep-passing-def.routine code.calls-row·keep·keep-passing (keep-passing-thm.met 𝓤 H 𝓜 𝓖 𝓡))
-    (cited 𝓤 H (Replies 𝓤 H (𝓖 .A) (𝓜 .mem) (𝓡 .run)) 𝓜 𝓡 code.env #row·answer·reply reply-def.routine code.calls-row·answer·reply (reply-thm.met 𝓤 H 𝓜 𝓖 𝓡)))
+    (cited 𝓤 H (Replies 𝓤 H (𝓖 .A) (𝓜 .mem) (𝓡 .run)) 𝓜 𝓡 code.env #row·answer·put-answers put-answers-def.routine code.calls-row·answer·put-answers (put-answers-thm.met 𝓤 H 𝓜 𝓖 𝓡)))

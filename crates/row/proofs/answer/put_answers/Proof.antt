@@ -1,11 +1,11 @@
--- `row::answer::reply` meets its contract. Assumes nothing.
+-- `row::answer::put_answers` meets its contract. Assumes nothing.
 use native.Mathlib.Omega.{arith}
 use mathlib.Core.Path.{refl}
 use lib.ListN.{length}
 use borrow.Author.Tests.{le-leb, lt-leb}
 use borrow.Author.Needs.{needs}
-use Rattle.row.proofs.answer.reply.Statement.{statement}
-use Rattle.row.proofs.answer.reply.Tie as tie
+use Rattle.row.proofs.answer.put_answers.Statement.{statement}
+use Rattle.row.proofs.answer.put_answers.Tie as tie
 
 returns : tie.Need-returns
 returns c =
@@ -27,7 +27,7 @@ returns-2 c =
     let s = e .before .before in
     rw (le-leb (s .args .n) (length (s .args .answers .now)) (omega (arith, e .if1 .left))) (refl, c .before .before .put-rising .ensures)
 
-pub reply-spec : {M : Type 1} → statement M
-reply-spec =
+pub put-answers-spec : {M : Type 1} → statement M
+put-answers-spec =
     tie.close
     (tie.spec returns slice-aggregate-put-rising put-rising-requires same-length returns-2)
