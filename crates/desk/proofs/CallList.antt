@@ -1,4 +1,4 @@
--- What each answer to a query leaves behind where the candidate list is a row of records. By the lines of a query. Assumes nothing.
+-- What each answer to a query leaves behind. By the lines of a query. Assumes nothing.
 use Prim.Native.Nat.{ℕ, _≤_, _<_}
 use native.Mathlib.Omega.{arith}
 use native.Mathlib.Decide.{decLt}
@@ -18,16 +18,15 @@ use Rattle.table.specs.declared.given.Given.the-variants.{Done, FewAnswers}
 use Rattle.table.specs.Words.{Words}
 use Rattle.change.proofs.Shares.{map-drop}
 use Rattle.filter.specs.Query.{Record, recordsFound, answersFound, laidOver}
-use Rattle.filter.specs.declared.query.Reply.{Reply}
 use Rattle.filter.proofs.Rows.{laid-length}
+use Rattle.row.specs.declared.answer.Reply.{Reply}
 use Rattle.row.specs.declared.record.Candidate.{Candidate}
 use Rattle.row.specs.Records.{recordOfCandidate, recordsOf}
 use Rattle.row.specs.Asked.{candidatesFound, Listed}
 use Rattle.row.proofs.Outcome.{records-found}
 use Rattle.desk.specs.Refusals.{queryGives}
 use Rattle.desk.specs.Calls.{afterQuery}
-use Rattle.desk.specs.Lent.{nAlone, allThree, told}
-use Rattle.desk.specs.Listed.{refuses, listAfter, AnswersIn}
+use Rattle.desk.specs.Lent.{nAlone, allThree, told, refuses, listAfter, Answers}
 use Rattle.desk.proofs.Given.{by-given, if-refused, if-not-few}
 use Rattle.desk.proofs.CallQuery.{answersTold, query-early, not-few, query-late, after-refused, queried-ext, counts-ext}
 
@@ -55,7 +54,7 @@ not-refused-done g r = by-given g (λ e. e) (λ e. absurd (true-not-false (sym (
 module _ (ws : Words) (q : Site) (k : ℤ) where
   -- a refusal before the answers are known
   pub list-refused : (cs : List Candidate) (out : List ℕ) {g : Given} → g ≡ queryGives ws q k (length cs) (answersTold ws q k) → (g ≡ Done → ⊥)
-      → AnswersIn ws q k cs cs out out (record { given = g; n = 0; m = 0; o = 0 })
+      → Answers ws q k cs cs out out (record { given = g; n = 0; m = 0; o = 0 })
   unfolding listAfter
   list-refused cs out {g} e d =
       let h = query-early ws q k (length cs) e d (length out) in
@@ -93,7 +92,7 @@ module _ (ws : Words) (q : Site) (k : ℤ) where
         ∙ by-leb (λ b. length (cond b (laidOver found old) old) ≡ length old) (length found) (length old) (λ h. laid-length found old h) (λ h. refl)
 
     -- one that is too short stays, and m and o are not told
-    list-few : length new < reply .n → AnswersIn ws q k before after old new (nAlone (reply .n))
+    list-few : length new < reply .n → Answers ws q k before after old new (nAlone (reply .n))
     unfolding afterQuery listAfter
     list-few short =
         let h : queryGives ws q k (length before) (length old) ≡ FewAnswers = last ∙ rw (lt-ltb (length old) (reply .n) (omega (arith, new-length))) in
@@ -103,7 +102,7 @@ module _ (ws : Words) (q : Site) (k : ℤ) where
           list = rw h (r .candidates);
         }
 
-    list-done : reply .n ≤ length new → AnswersIn ws q k before after old new (allThree reply)
+    list-done : reply .n ≤ length new → Answers ws q k before after old new (allThree reply)
     unfolding afterQuery listAfter
     list-done enough =
         let h : queryGives ws q k (length before) (length old) ≡ Done = last ∙ rw (le-ltb (length old) (reply .n) (omega (arith, new-length))) in
@@ -114,10 +113,10 @@ module _ (ws : Words) (q : Site) (k : ℤ) where
           list = rw h (r .candidates);
         }
 
-    pub list-told : AnswersIn ws q k before after old new (told reply (length old))
+    pub list-told : Answers ws q k before after old new (told reply (length old))
     list-told = go (decLt (length new) (reply .n))
       where
-        go : Dec (length new < reply .n) → AnswersIn ws q k before after old new (told reply (length old))
+        go : Dec (length new < reply .n) → Answers ws q k before after old new (told reply (length old))
         go (yes l) = rw (lt-ltb (length old) (reply .n) (omega (arith, new-length))) (list-few l)
         go (no l) =
             let h : reply .n ≤ length new = omega arith in

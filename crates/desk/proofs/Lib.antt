@@ -7,6 +7,5 @@ pub mod Demands
 pub mod CallTests
 pub mod CallNumbers
 pub mod CallOrder
-pub mod CallRows
 pub mod CallQuery
 pub mod CallList

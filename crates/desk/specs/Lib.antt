@@ -2,4 +2,3 @@ pub mod Refusals
 pub mod Calls
 pub mod Demands
 pub mod Lent
-pub mod Listed

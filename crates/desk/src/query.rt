@@ -1,21 +1,20 @@
-// The reverse k-nearest query, with its refusals in document 01's order: 1, 2, 4, 5, 9, 10.
+// The reverse k-nearest query, with its refusals in document 01's order: 1, 2, 4, 5, 9, 10. The candidate list is a lent row of records.
 ghost use mathlib.Core.Path.{_≡_};
 ghost use mathlib.Core.Bool.{true};
-ghost use Prim.Native.Nat.{min};
 ghost use lib.ListN.{length};
 ghost use Rattle.grid.specs.Word.{natOf};
 ghost use Rattle.table.specs.Figures.{LENGTH};
 ghost use Rattle.audit.specs.Rules.{wellFormed};
 ghost use Rattle.filter.specs.Query.{answersFound};
-ghost use Rattle.filter.specs.Rows.{rows};
 ghost use Rattle.desk.specs.Refusals.{site, queryGives};
-ghost use Rattle.desk.specs.Lent.{roomOf, told, Answers};
+ghost use Rattle.desk.specs.Lent.{told, refuses, Answers};
 use crate::refuse;
 use crate::words::are_words;
 use audit::check;
-use filter::query as answering;
-use filter::query::Reply;
-use grid::border;
+use grid::border::natural;
+use row::answer::Reply;
+use row::answer::answer;
+use row::record::Candidate;
 use table::given::Given;
 use table::slot;
 
@@ -39,20 +38,14 @@ pub(crate) fn refused(given: Given) -> Answered
     }
 }
 
-fn lesser(a: usize, b: usize) -> usize
-    ensures { λ r. ⌜ r ≡ min a b ⌝ }
+// Whether an answer is a refusal.
+fn is_refused(given: Given) -> bool
+    ensures { λ r. ⌜ r ≡ refuses given ⌝ }
 {
-    if a < b { a } else { b }
-}
-
-// How many records the four rows have room for.
-fn room(numbers: &[i32], xs: &[i32], ys: &[i32], squares: &[u64]) -> usize
-    ensures { λ r. ⌜ r ≡ roomOf (rows (now (numbers .entry)) (now (xs .entry)) (now (ys .entry)) (now (squares .entry))) ⌝ }
-{
-    lesser(
-        numbers.len(),
-        lesser(xs.len(), lesser(ys.len(), squares.len())),
-    )
+    let Given::Done = given else {
+        return true;
+    };
+    false
 }
 
 // What is handed back where the answer list has so many places: 10 gives n alone.
@@ -101,28 +94,22 @@ pub fn query_passing(
     x: i32,
     y: i32,
     k: i32,
-    numbers: &mut [i32],
-    xs: &mut [i32],
-    ys: &mut [i32],
-    squares: &mut [u64],
+    candidates: &mut [Candidate],
     answers: &mut [u32],
 ) -> Answered
     requires { ⌜ (length (now table) ≡ LENGTH) × (wellFormed (now table) ≡ true) ⌝ }
     ensures { λ r.
         ⌜
-        Answers (now (table .entry)) (site x y) k
-        (rows (now (numbers .entry)) (now (xs .entry)) (now (ys .entry)) (now (squares .entry)))
-        (rows (now (numbers .exit)) (now (xs .exit)) (now (ys .exit)) (now (squares .exit)))
-        (now (answers .entry)) (now (answers .exit)) r
+        Answers (now (table .entry)) (site x y) k (now (candidates .entry)) (now (candidates .exit)) (now (answers .entry))
+        (now (answers .exit)) r
         ⌝ }
 {
     are_words(table);
-    let given = query_given(table, x, y, k, room(numbers, xs, ys, squares));
-    let Given::Done = given else {
+    let given = query_given(table, x, y, k, candidates.len());
+    if is_refused(given) {
         return refused(given);
-    };
-    let least = border::natural(k);
-    let reply = answering::query(table, x, y, least, numbers, xs, ys, squares, answers);
+    }
+    let reply = answer(table, x, y, natural(k), candidates, answers);
     handed_back(reply, answers.len())
 }
 
@@ -132,23 +119,18 @@ pub fn query(
     x: i32,
     y: i32,
     k: i32,
-    numbers: &mut [i32],
-    xs: &mut [i32],
-    ys: &mut [i32],
-    squares: &mut [u64],
+    candidates: &mut [Candidate],
     answers: &mut [u32],
 ) -> Answered
     ensures { λ r.
         ⌜
-        Answers (now (table .entry)) (site x y) k
-        (rows (now (numbers .entry)) (now (xs .entry)) (now (ys .entry)) (now (squares .entry)))
-        (rows (now (numbers .exit)) (now (xs .exit)) (now (ys .exit)) (now (squares .exit)))
-        (now (answers .entry)) (now (answers .exit)) r
+        Answers (now (table .entry)) (site x y) k (now (candidates .entry)) (now (candidates .exit)) (now (answers .entry))
+        (now (answers .exit)) r
         ⌝ }
 {
     let checked = check(table);
-    let Given::Done = checked else {
+    if is_refused(checked) {
         return refused(checked);
-    };
-    query_passing(table, x, y, k, numbers, xs, ys, squares, answers)
+    }
+    query_passing(table, x, y, k, candidates, answers)
 }

@@ -1,11 +1,11 @@
--- `records::is_refused` meets its contract. Assumes nothing.
+-- `query::is_refused` meets its contract. Assumes nothing.
 use mathlib.Core.Path.{sym}
 use mathlib.Core.Bool.{true, false}
 use Rattle.desk.proofs.Given.{if-refused}
 use Rattle.desk.proofs.CallOrder.{not-done}
 use borrow.Author.Needs.{needs}
-use Rattle.desk.proofs.records.is_refused.Statement.{statement}
-use Rattle.desk.proofs.records.is_refused.Tie as tie
+use Rattle.desk.proofs.query.is_refused.Statement.{statement}
+use Rattle.desk.proofs.query.is_refused.Tie as tie
 
 enum-told : tie.Need-enum-told
 enum-told c = search needs
