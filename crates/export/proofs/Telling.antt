@@ -10,7 +10,7 @@ use Rattle.grid.specs.Site.{Site}
 use Rattle.table.specs.Words.{Words}
 use Rattle.table.specs.Given.{numberGiven}
 use Rattle.filter.specs.Query.{Counts, laidOver}
-use Rattle.filter.specs.Rows.{Rows}
+use Rattle.row.specs.declared.record.Candidate.{Candidate}
 use Rattle.desk.specs.declared.query.Answered.{Answered}
 use Rattle.desk.specs.Calls.{Queried}
 use Rattle.desk.specs.Lent.{Answers}
@@ -32,12 +32,12 @@ counts-three c row h = rw (le-ltb (length row) 3 h) (three-set row (c .n) (c .m)
 
 -- ---- all that is told
 
-pub telling : (ws : Words) (q : Site) (k : ℤ) (before after : Rows) (old new row told : List ℕ) (a : Answered) (r : ℕ)
+pub telling : (ws : Words) (q : Site) (k : ℤ) (before after : List Candidate) (old new row told : List ℕ) (a : Answered) (r : ℕ)
     → Answers ws q k before after old new a → r ≡ numberGiven (a .given) → told ≡ countsLaid (record { n = a .n; m = a .m; o = a .o }) row
     → Told ws q k before after old new row told r
 telling ws q k before after old new row told a r s g c = record {
   given = g ∙ ap (λ (z : Queried). numberGiven (z .given)) (s .says);
-  rows = s .rows;
+  list = s .list;
   candidates = ap (λ (z : Queried). z .candidates) (s .says);
   answers = ap (λ (z : Queried). z .answers) (s .says);
   counts = c ∙ ap (λ (z : Queried). countsLaid (z .counts) row) (s .says);

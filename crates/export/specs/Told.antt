@@ -10,18 +10,19 @@ use Rattle.grid.specs.Site.{Site}
 use Rattle.table.specs.Words.{Words}
 use Rattle.table.specs.Given.{numberGiven}
 use Rattle.filter.specs.Query.{Counts, laidOver}
-use Rattle.filter.specs.Rows.{Rows}
+use Rattle.row.specs.declared.record.Candidate.{Candidate}
+use Rattle.row.specs.Records.{recordsOf}
 use Rattle.desk.specs.Calls.{afterQuery}
-use Rattle.desk.specs.Lent.{recordsIn, rowsAfter}
+use Rattle.desk.specs.Lent.{listAfter}
 
 -- n, m and o laid over the front of the lent row; a row of fewer than three places gets nothing
 abbrev pub countsLaid : Counts → List ℕ → List ℕ
 countsLaid c row = cond (ltb (length row) 3) row (laidOver (c .n ∷ c .m ∷ c .o ∷ []) row)
 
--- what the caller is told, and what each lent row holds afterwards
-pub record Told (ws : Words) (q : Site) (k : ℤ) (before after : Rows) (old new row told : List ℕ) (r : ℕ) : Type 0 where
-  pub given : r ≡ numberGiven (afterQuery ws q k (recordsIn before) old .given)
-  pub rows : after ≡ rowsAfter ws q k before old
-  pub candidates : recordsIn after ≡ afterQuery ws q k (recordsIn before) old .candidates
-  pub answers : new ≡ afterQuery ws q k (recordsIn before) old .answers
-  pub counts : told ≡ countsLaid (afterQuery ws q k (recordsIn before) old .counts) row
+-- what the caller is told, and what each lent list holds afterwards
+pub record Told (ws : Words) (q : Site) (k : ℤ) (before after : List Candidate) (old new row told : List ℕ) (r : ℕ) : Type 0 where
+  pub given : r ≡ numberGiven (afterQuery ws q k (recordsOf before) old .given)
+  pub list : after ≡ listAfter ws q k before old
+  pub candidates : recordsOf after ≡ afterQuery ws q k (recordsOf before) old .candidates
+  pub answers : new ≡ afterQuery ws q k (recordsOf before) old .answers
+  pub counts : told ≡ countsLaid (afterQuery ws q k (recordsOf before) old .counts) row

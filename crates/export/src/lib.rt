@@ -1,17 +1,13 @@
 // The calls for C and Rust programs, as a static library: numbers and slices only, answers by document 01's numbers.
-// It promises what desk promises. It stands on desk. Only `ullagreth_query_passing` has a `requires`: that the table passes the check.
+// It promises what desk promises. It stands on desk. None of them has a `requires`.
 ghost use mathlib.Core.Path.{_≡_};
-ghost use mathlib.Core.Bool.{true};
-ghost use lib.ListN.{length};
-ghost use Rattle.table.specs.Figures.{LENGTH};
-ghost use Rattle.audit.specs.Rules.{wellFormed};
 ghost use Rattle.table.specs.Given.{numberGiven};
 ghost use Rattle.audit.specs.Check.{checkGives};
-ghost use Rattle.filter.specs.Rows.{rows};
 ghost use Rattle.desk.specs.Refusals.{site, enrolGives, withdrawGives};
 ghost use Rattle.desk.specs.Calls.{afterEnrol, afterWithdraw};
 ghost use Rattle.export.specs.Told.{countsLaid, Told};
 use desk::query::Answered;
+use row::record::Candidate;
 use table::given::number_given;
 
 // The table check.
@@ -55,55 +51,23 @@ fn told(a: Answered, counts: &mut [u64]) -> u8
     number_given(given)
 }
 
-// Answers a query: candidates to the four rows, answers to the answer list, n, m and o to the counts.
+// Answers a query: candidates to the candidate list, answers to the answer list, n, m and o to the counts.
 #[no_mangle]
 pub extern "C" fn ullagreth_query(
     table: &[i32],
     x: i32,
     y: i32,
     k: i32,
-    numbers: &mut [i32],
-    xs: &mut [i32],
-    ys: &mut [i32],
-    squares: &mut [u64],
+    list: &mut [Candidate],
     answers: &mut [u32],
     counts: &mut [u64],
 ) -> u8
     ensures { λ r.
         ⌜
-        Told (now (table .entry)) (site x y) k
-        (rows (now (numbers .entry)) (now (xs .entry)) (now (ys .entry)) (now (squares .entry)))
-        (rows (now (numbers .exit)) (now (xs .exit)) (now (ys .exit)) (now (squares .exit)))
-        (now (answers .entry)) (now (answers .exit)) (now (counts .entry)) (now (counts .exit)) r
+        Told (now (table .entry)) (site x y) k (now (list .entry)) (now (list .exit)) (now (answers .entry)) (now (answers .exit))
+        (now (counts .entry)) (now (counts .exit)) r
         ⌝ }
 {
-    let a = desk::query::query(table, x, y, k, numbers, xs, ys, squares, answers);
-    told(a, counts)
-}
-
-// The same for callers who know that the table passes the check, as one that `ullagreth_check` has just passed: it is not checked again.
-#[no_mangle]
-pub extern "C" fn ullagreth_query_passing(
-    table: &[i32],
-    x: i32,
-    y: i32,
-    k: i32,
-    numbers: &mut [i32],
-    xs: &mut [i32],
-    ys: &mut [i32],
-    squares: &mut [u64],
-    answers: &mut [u32],
-    counts: &mut [u64],
-) -> u8
-    requires { ⌜ (length (now table) ≡ LENGTH) × (wellFormed (now table) ≡ true) ⌝ }
-    ensures { λ r.
-        ⌜
-        Told (now (table .entry)) (site x y) k
-        (rows (now (numbers .entry)) (now (xs .entry)) (now (ys .entry)) (now (squares .entry)))
-        (rows (now (numbers .exit)) (now (xs .exit)) (now (ys .exit)) (now (squares .exit)))
-        (now (answers .entry)) (now (answers .exit)) (now (counts .entry)) (now (counts .exit)) r
-        ⌝ }
-{
-    let a = desk::query::query_passing(table, x, y, k, numbers, xs, ys, squares, answers);
+    let a = desk::query::query(table, x, y, k, list, answers);
     told(a, counts)
 }
