@@ -1,4 +1,4 @@
--- The candidate list as it is lent: four rows of words, for the number, x, y and the squared distance to q of each candidate.
+-- The candidates as the walk notes them: four rows of words, for the number, x, y and the squared distance to q of each.
 use Prim.Native.Nat.{ℕ, _≤_, _<_, _^_}
 use mathlib.Core.Path.{_≡_}
 use mathlib.Core.Bool.{true}

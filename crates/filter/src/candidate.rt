@@ -1,4 +1,4 @@
-// The candidate list, as four lent rows: it takes one more candidate.
+// The candidates so far, in four lent rows: one more is noted.
 ghost use mathlib.Core.Path.{_≡_};
 ghost use mathlib.Core.Bool.{true};
 ghost use Prim.Native.Nat.{_<_};
