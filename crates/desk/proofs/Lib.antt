@@ -10,3 +10,4 @@ pub mod CallOrder
 pub mod CallRows
 pub mod CallQuery
 pub mod CallList
+pub mod CallAlone
