@@ -1,6 +1,6 @@
 -- A query whose candidate list is its own: what stood in the list decides neither what is given, nor the counts, nor the answers. By the definition of a query. Assumes nothing.
 use Prim.Native.Nat.{ℕ}
-use mathlib.Core.Path.{_≡_, refl, sym, ap, _∙_}
+use mathlib.Core.Path.{_≡_, sym, ap, _∙_}
 use mathlib.Core.List.{List}
 use lib.IntN.{ℤ}
 use lib.ListN.{length, length-map, length-replicate}
@@ -8,7 +8,7 @@ use Rattle.grid.specs.Word.{natOf}
 use Rattle.grid.specs.Site.{Site}
 use Rattle.table.specs.Figures.{MOST}
 use Rattle.table.specs.Words.{Words}
-use Rattle.filter.specs.Query.{Record, answersFound, countsOf, laidOver}
+use Rattle.filter.specs.Query.{Record, Counts, answersFound, countsOf, laidOver}
 use Rattle.row.specs.declared.record.Candidate.{Candidate}
 use Rattle.row.specs.Records.{recordOfCandidate, recordsOf}
 use Rattle.desk.specs.declared.query.Answered.{Answered}
@@ -16,6 +16,7 @@ use Rattle.desk.specs.Refusals.{queryGives}
 use Rattle.desk.specs.Calls.{ifDone, ifFewAnswers, Queried, afterQuery, zeroCounts, onlyN}
 use Rattle.desk.specs.Listed.{AnswersIn}
 use Rattle.desk.specs.Alone.{blankRecord, blankList, AnswersAlone, AnyList}
+use Rattle.desk.proofs.CallQuery.{answered-ext}
 
 pub any-list : AnyList
 unfolding afterQuery
@@ -42,3 +43,12 @@ answers-alone {ws} {q} {k} {before} {after} {old} long a =
       counts = ap (λ (t : Queried). t .counts) (a .says) ∙ same .counts;
       answers = ap (λ (t : Queried). t .answers) (a .says) ∙ same .answers;
     }
+
+-- any two outcomes that the promise permits are equal
+pub alone-once : {ws : Words} {q : Site} {k : ℤ} {old new new′ : List ℕ} {r r′ : Answered} → AnswersAlone ws q k old new r → AnswersAlone ws q k old new′ r′
+    → (new ≡ new′) × (r ≡ r′)
+alone-once {r = r} {r′ = r′} a b =
+    let c : _≡_ {A = Counts} (record { n = r .n; m = r .m; o = r .o }) (record { n = r′ .n; m = r′ .m; o = r′ .o }) = a .counts ∙ sym (b .counts) in (
+      a .answers ∙ sym (b .answers),
+      answered-ext (a .given ∙ sym (b .given)) (ap (λ x. x .n) c) (ap (λ x. x .m) c) (ap (λ x. x .o) c),
+    )
