@@ -15,8 +15,8 @@ use Rattle.sheet.specs.Output.{Laid}
 use Rattle.sheet.proofs.Parted.{next-within, next-beyond}
 use Rattle.sheet.proofs.Laid.{laid-none, laid-then}
 use Rattle.clerk.specs.declared.run.Run.{Run}
-use Rattle.clerk.specs.Sheet.{ranLine, lineOutput}
-use Rattle.clerk.specs.Running.{Lent, stateOf, longestLine, rowsRan, RanOne, Stand, standAt, lineRun, goesOn, linesRun, runFrom, LeftAt, SameLengths, RanLines}
+use Rattle.clerk.specs.Sheet.{State, ranLine, lineOutput}
+use Rattle.clerk.specs.Running.{longestLine, RanOne, Stand, standAt, lineRun, goesOn, linesRun, runFrom, LeftAt, RanLines}
 use Rattle.clerk.proofs.Kept.{line-passing, line-most}
 
 -- ---- whether there is one line more
@@ -51,7 +51,7 @@ module _ (sheet : Bytes) (room : ℕ) (s : Stand) where
 
 -- ---- one line more, as the code leaves it
 
-module _ (sheet : Bytes) (s : Stand) {now after : Lent} {out left left′ : Bytes} {r : Run} {next : ℕ} (l : LeftAt s now out left r)
+module _ (sheet : Bytes) (s : Stand) {now after : State} {out left left′ : Bytes} {r : Run} {next : ℕ} (l : LeftAt s now out left r)
     (ran : RanOne (r .number) (lineOf sheet (r .at)) now after left (r .filled) left′ next) where
   abbrev line : Bytes
   line = lineOf sheet (s .at)
@@ -74,8 +74,7 @@ module _ (sheet : Bytes) (s : Stand) {now after : Lent} {out left left′ : Byte
         at = ap (nextOf sheet) (l .at);
         number = ap (λ n. n + 1) (l .number);
         filled = omega (arith, both .behind);
-        state = ran .state ∙ ap (λ b. ranLine (stateOf now) b .state) same-line ∙ ap (λ st. ranLine st line .state) (l .state);
-        rows = ran .rows ∙ ap (λ b. rowsRan (stateOf now) (now .rows) b) same-line ∙ ap (λ st. rowsRan st (now .rows) line) (l .state) ∙ ap (λ t. rowsRan (s .state) t line) (l .rows);
+        state = ran .state ∙ ap (λ b. ranLine now b .state) same-line ∙ ap (λ st. ranLine st line .state) (l .state);
         laid = both .laid;
       }
 
@@ -85,7 +84,7 @@ module _ (sheet : Bytes) (s : Stand) {now after : Lent} {out left left′ : Byte
 
 -- ---- how a run goes
 
-pub record Going (sheet : Bytes) (at number : ℕ) (before : Lent) (out : Bytes) (now : Lent) (left : Bytes) (r : Run) : Type 0 where
+pub record Going (sheet : Bytes) (at number : ℕ) (before : State) (out : Bytes) (now : State) (left : Bytes) (r : Run) : Type 0 where
   -- where it stands, and so many lines more bring it to its end
   pub stand : Stand
   pub lines : ℕ
@@ -93,7 +92,7 @@ pub record Going (sheet : Bytes) (at number : ℕ) (before : Lent) (out : Bytes)
   pub ends : linesRun lines sheet (length out) stand ≡ runFrom sheet (length out) (standAt at number before)
   pub here : LeftAt stand now out left r
   pub passing : Passing (now .words)
-  pub lengths : SameLengths before now
+  pub places : length (now .answers) ≡ length (before .answers)
   pub onward : at ≤ r .at
   pub within : r .at ≤ length sheet
   pub numbered : r .number + at ≤ number + r .at
@@ -101,7 +100,7 @@ pub record Going (sheet : Bytes) (at number : ℕ) (before : Lent) (out : Bytes)
   -- nothing is laid before the first line has been passed
   pub begun : r .at ≤ at → r .filled ≡ 0
 
-module _ (sheet : Bytes) (at number : ℕ) (before : Lent) (out : Bytes) where
+module _ (sheet : Bytes) (at number : ℕ) (before : State) (out : Bytes) where
   pub going-first : Passing (before .words) → at ≤ length sheet
       → Going sheet at number before out before out (record { at = at; number = number; filled = 0 })
   unfolding runFrom
@@ -110,9 +109,9 @@ module _ (sheet : Bytes) (at number : ℕ) (before : Lent) (out : Bytes) where
     lines = length sheet;
     enough = omega arith;
     ends = refl;
-    here = record { at = refl; number = refl; filled = refl; state = refl; rows = refl; laid = sym (laid-none out 0) };
+    here = record { at = refl; number = refl; filled = refl; state = refl; laid = sym (laid-none out 0) };
     passing = p;
-    lengths = record { numbers = refl; xs = refl; ys = refl; squares = refl; answers = refl };
+    places = refl;
     onward = omega arith;
     within = h;
     numbered = omega arith;
@@ -120,16 +119,16 @@ module _ (sheet : Bytes) (at number : ℕ) (before : Lent) (out : Bytes) where
     begun = λ _. refl;
   }
 
-  module _ {now : Lent} {left : Bytes} {r : Run} (g : Going sheet at number before out now left r) where
+  module _ {now : State} {left : Bytes} {r : Run} (g : Going sheet at number before out now left r) where
     abbrev s : Stand
     s = g .stand
 
     -- what a line needs, by the answer list as it was at first
     needed : longestLine (length (s .state .answers)) ≡ longestLine (length (before .answers))
-    needed = ap (λ st. longestLine (length (st .answers))) (sym (g .here .state)) ∙ ap longestLine (g .lengths .answers)
+    needed = ap (λ st. longestLine (length (st .answers))) (sym (g .here .state)) ∙ ap longestLine (g .places)
 
-    pub going-more : {after : Lent} {left′ : Bytes} {next : ℕ} → r .at < length sheet → r .filled + longestLine (length (before .answers)) ≤ length out
-        → RanOne (r .number) (lineOf sheet (r .at)) now after left (r .filled) left′ next → SameLengths now after
+    pub going-more : {after : State} {left′ : Bytes} {next : ℕ} → r .at < length sheet → r .filled + longestLine (length (before .answers)) ≤ length out
+        → RanOne (r .number) (lineOf sheet (r .at)) now after left (r .filled) left′ next → length (after .answers) ≡ length (now .answers)
         → Going sheet at number before out after left′ (record { at = nextOf sheet (r .at); number = r .number + 1; filled = next })
     going-more {after} {left′} {next} more fits ran same =
         let h : length (s .bytes) + longestLine (length (s .state .answers)) ≤ length out = omega (arith, g .here .filled, needed) in
@@ -143,14 +142,8 @@ module _ (sheet : Bytes) (at number : ℕ) (before : Lent) (out : Bytes) where
           enough = omega (arith, less .1, next-beyond FEED sheet (s .at) far);
           ends = less .2;
           here = left-more sheet s (g .here) ran h;
-          passing = subst Passing (sym (ap (λ st. st .words) (ran .state))) (line-passing (stateOf now) (g .passing) (lineOf sheet (r .at)));
-          lengths = record {
-            numbers = same .numbers ∙ g .lengths .numbers;
-            xs = same .xs ∙ g .lengths .xs;
-            ys = same .ys ∙ g .lengths .ys;
-            squares = same .squares ∙ g .lengths .squares;
-            answers = same .answers ∙ g .lengths .answers;
-          };
+          passing = subst Passing (sym (ap (λ st. st .words) (ran .state))) (line-passing now (g .passing) (lineOf sheet (r .at)));
+          places = same ∙ g .places;
           onward = omega (arith, g .onward);
           within = next-within FEED sheet (r .at) (g .within);
           numbered = omega (arith, g .numbered);
@@ -166,7 +159,7 @@ module _ (sheet : Bytes) (at number : ℕ) (before : Lent) (out : Bytes) where
     over e further = record {
       exact = subst (λ t. LeftAt t now out left r) (sym (ended e)) (g .here);
       passes = record { long = g .passing .long; rules = g .passing .rules };
-      lengths = g .lengths;
+      places = g .places;
       onward = g .onward;
       further = further;
       within = g .within;

@@ -10,6 +10,7 @@ use Rattle.table.specs.Given.{numberGiven}
 use Rattle.filter.specs.Query.{answersFound, laidOver}
 use Rattle.desk.specs.Refusals.{site, queryGives}
 use Rattle.desk.specs.Calls.{ifDone, Queried, afterQuery}
+use Rattle.desk.specs.Alone.{blankList}
 use Rattle.desk.specs.Demands.{Passing, enrol, withdraw}
 use Rattle.desk.proofs.Given.{by-given}
 use Rattle.desk.proofs.Granted.{query-granted}
@@ -45,7 +46,7 @@ job-answers st (Enrol n a b) = refl
 job-answers st (Withdraw n) = refl
 job-answers st (Query a b k) =
     let q = site a b in
-    let room = length (st .candidates) in
+    let room = length blankList in
     let old = st .answers in
     let found = answersFound (st .words) q (natOf k) in
     by-given (queryGives (st .words) q k room (length old))
@@ -72,7 +73,7 @@ job-more : (st : State) (j : Job) → length (ranJob st j .more) ≤ 3 + length 
 job-more st (Enrol n a b) = omega arith
 job-more st (Withdraw n) = omega arith
 job-more st (Query a b k) =
-    let r = afterQuery (st .words) (site a b) k (st .candidates) (st .answers) in
+    let r = afterQuery (st .words) (site a b) k blankList (st .answers) in
     omega (arith, if-most (r .given) (granted r), granted-most r, job-answers st (Query a b k))
 job-more st MissingK = omega arith
 job-more st Misshapen = omega arith

@@ -2,6 +2,5 @@ pub mod Cleared
 pub mod Jobs
 pub mod Kept
 pub mod Going
-pub mod Blank
 pub mod Whole
 pub mod Once

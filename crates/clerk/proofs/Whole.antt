@@ -16,11 +16,10 @@ use Rattle.sheet.specs.Marks.{lineOf}
 use Rattle.sheet.proofs.Parted.{lines-done, lines-more, next-beyond}
 use Rattle.sheet.proofs.Laid.{laid-front}
 use Rattle.clerk.specs.declared.run.Run.{Run}
-use Rattle.clerk.specs.Sheet.{lineOutput, linesOutput, LONGEST, blankRecord, start, sheetOutput}
-use Rattle.clerk.specs.Running.{Lent, lent, longestLine, Stand, standAt, lineRun, goesOn, linesRun, runFrom, LeftAt, restOutput, LineByLine, emptied, runsOutput, zeroRows, blank, RunPrints, WholeSheet}
+use Rattle.clerk.specs.Sheet.{State, lineOutput, linesOutput, LONGEST, start, sheetOutput}
+use Rattle.clerk.specs.Running.{lent, longestLine, Stand, standAt, lineRun, goesOn, linesRun, runFrom, LeftAt, restOutput, LineByLine, emptied, runsOutput, RunPrints, WholeSheet}
 use Rattle.clerk.proofs.Kept.{line-answers}
 use Rattle.clerk.proofs.Going.{goes-on}
-use Rattle.clerk.proofs.Blank.{zero-records}
 
 module _ (sheet : Bytes) (room : ℕ) where
   -- the bytes so far, and then those of the lines to come
@@ -83,13 +82,13 @@ module _ (sheet : Bytes) (room : ℕ) where
 -- ---- by what the code promises
 
 -- the front of the buffer is the bytes of the run
-printed : {s : Stand} {after : Lent} {out left : Bytes} {r : Run} → LeftAt s after out left r → r .filled ≤ length out → take (r .filled) left ≡ s .bytes
+printed : {s : Stand} {after : State} {out left : Bytes} {r : Run} → LeftAt s after out left r → r .filled ≤ length out → take (r .filled) left ≡ s .bytes
 printed {s} {after} {out} {left} {r} l h =
     let e : r .filled ≡ 0 + length (s .bytes) = omega (arith, l .filled) in
     ap (λ n. take n left) e ∙ ap (take (0 + length (s .bytes))) (l .laid) ∙ laid-front out 0 (s .bytes) (omega (arith, e))
 
 -- a run that goes on from there has the same lines to come
-rest-there : (sheet : Bytes) {s : Stand} {after : Lent} {out left : Bytes} {r : Run} → LeftAt s after out left r
+rest-there : (sheet : Bytes) {s : Stand} {after : State} {out left : Bytes} {r : Run} → LeftAt s after out left r
     → restOutput sheet s ≡ restOutput sheet (standAt (r .at) (r .number) after)
 rest-there sheet l = rw (l .at, l .number, l .state)
 
@@ -102,20 +101,14 @@ run-prints sheet at number before after out left r ran =
 
 -- ---- from the start
 
--- with lists of n
-abbrev blankOf : ℕ → Lent
-blankOf n = lent emptyTable (zeroRows n) (replicate n 0)
+-- with an answer list of n
+abbrev startOf : ℕ → State
+startOf n = lent emptyTable (replicate n 0)
 
-blank-rest : (n : ℕ) (sheet : Bytes)
-    → restOutput sheet (standAt 0 1 (blankOf n))
-    ≡ linesOutput 1 (record { words = emptyTable; candidates = replicate n blankRecord; answers = replicate n 0 }) (linesOf sheet)
-blank-rest n sheet =
-    ap (λ cs. linesOutput 1 (record { words = emptyTable; candidates = cs; answers = replicate n 0 }) (linesOf sheet)) (zero-records n)
-
-blank-runs : (n : ℕ) (sheet : Bytes) (room : ℕ) → longestLine n ≤ room
-    → runsOutput (length sheet) sheet room (standAt 0 1 (blankOf n)) ≡ restOutput sheet (standAt 0 1 (blankOf n))
-blank-runs n sheet room fits =
-    runs-whole sheet room (length sheet) (standAt 0 1 (blankOf n)) refl (omega arith) (omega (arith, length-replicate {A = ℕ} n 0))
+start-runs : (n : ℕ) (sheet : Bytes) (room : ℕ) → longestLine n ≤ room
+    → runsOutput (length sheet) sheet room (standAt 0 1 (startOf n)) ≡ restOutput sheet (standAt 0 1 (startOf n))
+start-runs n sheet room fits =
+    runs-whole sheet room (length sheet) (standAt 0 1 (startOf n)) refl (omega arith) (omega (arith, length-replicate {A = ℕ} n 0))
 
 sheet-short : (sheet : Bytes) → length sheet ≤ LONGEST → linesOutput 1 start (linesOf sheet) ≡ sheetOutput sheet
 unfolding sheetOutput
@@ -123,5 +116,5 @@ sheet-short sheet short = rw (le-ltb LONGEST (length sheet) short)
 
 pub whole-sheet : WholeSheet
 whole-sheet sheet short =
-    let starts : restOutput sheet (standAt 0 1 blank) ≡ sheetOutput sheet = blank-rest MOST sheet ∙ sheet-short sheet short in
-    record { starts = starts; runs = λ room fits. blank-runs MOST sheet room fits ∙ starts }
+    let starts : restOutput sheet (standAt 0 1 start) ≡ sheetOutput sheet = sheet-short sheet short in
+    record { starts = starts; runs = λ room fits. start-runs MOST sheet room fits ∙ starts }

@@ -1,40 +1,24 @@
--- Line after line, as the code runs them: the table and the lists are lent, and the output lines are laid into a lent buffer.
+-- Line after line, as the code runs them: the table and the answer list are lent, and the output lines are laid into a lent buffer.
 use Prim.Native.Nat.{ℕ, zero, suc, _+_, _*_, _≤_, _<_}
 use mathlib.Core.Path.{_≡_}
 use mathlib.Core.Bool.{Bool, true, cond, _&&_}
 use mathlib.Core.List.{List, [], _++_}
 use lib.Dec.{leb, ltb}
-use lib.IntN.{pos}
-use lib.ListN.{length, take, drop, replicate}
+use lib.ListN.{length, take, drop}
 use Rattle.table.specs.Figures.{MOST, LENGTH}
 use Rattle.table.specs.Words.{Words}
 use Rattle.audit.specs.Rules.{wellFormed}
 use Rattle.table.specs.Given.{numberGiven}
-use Rattle.table.specs.Empty.{emptyTable}
-use Rattle.filter.specs.Rows.{Rows, rows}
-use Rattle.desk.specs.Refusals.{site}
-use Rattle.desk.specs.Lent.{recordsIn, rowsAfter}
 use Rattle.sheet.specs.Bytes.{Bytes, linesOf}
 use Rattle.sheet.specs.Marks.{lineOf, nextOf}
 use Rattle.sheet.specs.declared.job.Job.{Job}
-use Rattle.sheet.specs.declared.job.Job.the-variants.{Enrol, Withdraw, Query, MissingK, Misshapen}
-use Rattle.sheet.specs.Job.{jobOf}
 use Rattle.sheet.specs.Output.{letterOf, outputLine, laidAt, Laid}
 use Rattle.clerk.specs.declared.run.Run.{Run}
-use Rattle.clerk.specs.Sheet.{State, ranJob, ranLine, lineOutput, linesOutput, LONGEST, sheetOutput}
+use Rattle.clerk.specs.Sheet.{State, ranJob, ranLine, lineOutput, linesOutput, LONGEST, start, sheetOutput}
 
--- what is lent: the table, the candidate list as four rows of words, the answer list
-pub record Lent : Type 0 where
-  pub words : Words
-  pub rows : Rows
-  pub answers : List ℕ
-
-abbrev pub lent : Words → Rows → List ℕ → Lent
-lent ws rs ns = record { words = ws; rows = rs; answers = ns }
-
--- the table and the two lists that these are
-abbrev pub stateOf : Lent → State
-stateOf l = record { words = l .words; candidates = recordsIn (l .rows); answers = l .answers }
+-- what is lent: the table and the answer list
+abbrev pub lent : Words → List ℕ → State
+lent ws ns = record { words = ws; answers = ns }
 
 -- a table that passes the check
 pub record Passes (ws : Words) : Type 0 where
@@ -47,46 +31,32 @@ pub record Passes (ws : Words) : Type 0 where
 abbrev pub longestLine : ℕ → ℕ
 longestLine places = 107 + 21 * places
 
--- the four rows after a job, word for word: only a query writes to them
-abbrev pub rowsAfterJob : State → Rows → Job → Rows
-rowsAfterJob st r (Enrol n a b) = r
-rowsAfterJob st r (Withdraw n) = r
-rowsAfterJob st r (Query a b k) = rowsAfter (st .words) (site a b) k r (st .answers)
-rowsAfterJob st r MissingK = r
-rowsAfterJob st r Misshapen = r
-
-unfoldable pub rowsRan : State → Rows → Bytes → Rows
-rowsRan st r line = rowsAfterJob st r (jobOf line)
-
 -- the output line of a job
 unfoldable pub jobOutput : ℕ → State → Job → Bytes
 jobOutput number st job = outputLine number (letterOf job) (numberGiven (ranJob st job .given)) (ranJob st job .more)
 
 -- what a job leaves behind
-pub record RanJob (number : ℕ) (job : Job) (before after : Lent) (out : Bytes) (at : ℕ) (left : Bytes) (next : ℕ) : Type 0 where
-  pub state : stateOf after ≡ ranJob (stateOf before) job .state
-  pub rows : after .rows ≡ rowsAfterJob (stateOf before) (before .rows) job
-  pub laid : Laid out at (jobOutput number (stateOf before) job) left next
+pub record RanJob (number : ℕ) (job : Job) (before after : State) (out : Bytes) (at : ℕ) (left : Bytes) (next : ℕ) : Type 0 where
+  pub state : after ≡ ranJob before job .state
+  pub laid : Laid out at (jobOutput number before job) left next
 
--- what a line leaves behind: the table and the lists, the four rows word for word, and its output line in the buffer
-pub record RanOne (number : ℕ) (line : Bytes) (before after : Lent) (out : Bytes) (at : ℕ) (left : Bytes) (next : ℕ) : Type 0 where
-  pub state : stateOf after ≡ ranLine (stateOf before) line .state
-  pub rows : after .rows ≡ rowsRan (stateOf before) (before .rows) line
-  pub laid : Laid out at (lineOutput number (stateOf before) line) left next
+-- what a line leaves behind: the table and the answer list, and its output line in the buffer
+pub record RanOne (number : ℕ) (line : Bytes) (before after : State) (out : Bytes) (at : ℕ) (left : Bytes) (next : ℕ) : Type 0 where
+  pub state : after ≡ ranLine before line .state
+  pub laid : Laid out at (lineOutput number before line) left next
 
 -- ---- a run of lines
 
--- where a run stands: the place where the next line starts, its number, the table and the lists, the four rows, and the bytes of the lines so far
+-- where a run stands: the place where the next line starts, its number, the table and the answer list, and the bytes of the lines so far
 pub record Stand : Type 0 where
   pub at : ℕ
   pub number : ℕ
   pub state : State
-  pub rows : Rows
   pub bytes : Bytes
 
 -- before its first line
-abbrev pub standAt : ℕ → ℕ → Lent → Stand
-standAt at number l = record { at = at; number = number; state = stateOf l; rows = l .rows; bytes = [] }
+abbrev pub standAt : ℕ → ℕ → State → Stand
+standAt at number st = record { at = at; number = number; state = st; bytes = [] }
 
 -- one line more
 abbrev pub lineRun : Bytes → Stand → Stand
@@ -96,7 +66,6 @@ lineRun sheet s =
       at = nextOf sheet (s .at);
       number = s .number + 1;
       state = ranLine (s .state) line .state;
-      rows = rowsRan (s .state) (s .rows) line;
       bytes = s .bytes ++ lineOutput (s .number) (s .state) line;
     }
 
@@ -114,28 +83,19 @@ unfoldable pub runFrom : Bytes → ℕ → Stand → Stand
 runFrom sheet room s = linesRun (length sheet) sheet room s
 
 -- what the code gives back and leaves behind where a run stands: its bytes are laid over the front of the buffer
-pub record LeftAt (s : Stand) (after : Lent) (out left : Bytes) (r : Run) : Type 0 where
+pub record LeftAt (s : Stand) (after : State) (out left : Bytes) (r : Run) : Type 0 where
   pub at : r .at ≡ s .at
   pub number : r .number ≡ s .number
   pub filled : r .filled ≡ length (s .bytes)
-  pub state : stateOf after ≡ s .state
-  pub rows : after .rows ≡ s .rows
+  pub state : after ≡ s .state
   pub laid : left ≡ laidAt out 0 (s .bytes)
 
--- the lists are as long as they were
-pub record SameLengths (before after : Lent) : Type 0 where
-  pub numbers : length (after .rows .numbers) ≡ length (before .rows .numbers)
-  pub xs : length (after .rows .xs) ≡ length (before .rows .xs)
-  pub ys : length (after .rows .ys) ≡ length (before .rows .ys)
-  pub squares : length (after .rows .squares) ≡ length (before .rows .squares)
-  pub answers : length (after .answers) ≡ length (before .answers)
-
 -- what a run of lines promises
-pub record RanLines (sheet : Bytes) (at number : ℕ) (before after : Lent) (out left : Bytes) (r : Run) : Type 0 where
+pub record RanLines (sheet : Bytes) (at number : ℕ) (before after : State) (out left : Bytes) (r : Run) : Type 0 where
   pub exact : LeftAt (runFrom sheet (length out) (standAt at number before)) after out left r
-  -- what follows from that, for a caller that runs on: the table still passes the check
+  -- what follows from that, for a caller that runs on: the table still passes the check, and the answer list is as long as it was
   pub passes : Passes (after .words)
-  pub lengths : SameLengths before after
+  pub places : length (after .answers) ≡ length (before .answers)
   -- the place goes on, and stays in the sheet
   pub onward : at ≤ r .at
   pub further : at < length sheet → at < r .at
@@ -159,12 +119,12 @@ pub record LineByLine (sheet : Bytes) (room : ℕ) (s : Stand) : Type 0 where
 
 -- the same by what the code promises: what is still to be printed is the front of the buffer, and then what is to be printed after the run
 abbrev pub RunPrints : Type 0
-RunPrints = (sheet : Bytes) (at number : ℕ) (before after : Lent) (out left : Bytes) (r : Run) → RanLines sheet at number before after out left r
+RunPrints = (sheet : Bytes) (at number : ℕ) (before after : State) (out left : Bytes) (r : Run) → RanLines sheet at number before after out left r
     → restOutput sheet (standAt at number before) ≡ take (r .filled) left ++ restOutput sheet (standAt (r .at) (r .number) after)
 
 -- the same place, with an empty buffer
 abbrev pub emptied : Stand → Stand
-emptied s = record { at = s .at; number = s .number; state = s .state; rows = s .rows; bytes = [] }
+emptied s = record { at = s .at; number = s .number; state = s .state; bytes = [] }
 
 -- what runs print, one after the other until the sheet's end, at most n of them, each with an empty buffer of so many bytes
 abbrev pub runsOutput : ℕ → Bytes → ℕ → Stand → Bytes
@@ -174,20 +134,12 @@ runsOutput (suc n) sheet room s =
     (runFrom sheet room s .bytes ++ runsOutput n sheet room (emptied (runFrom sheet room s)))
     []
 
--- four rows of n zeros
-abbrev pub zeroRows : ℕ → Rows
-zeroRows n = rows (replicate n (pos 0)) (replicate n (pos 0)) (replicate n (pos 0)) (replicate n 0)
-
--- the empty table and lists of 500
-abbrev pub blank : Lent
-blank = lent emptyTable (zeroRows MOST) (replicate MOST 0)
-
 -- a sheet that is not too long, from the start
 pub record FromStart (sheet : Bytes) : Type 0 where
   -- what is to be printed is what the program prints
-  pub starts : restOutput sheet (standAt 0 1 blank) ≡ sheetOutput sheet
+  pub starts : restOutput sheet (standAt 0 1 start) ≡ sheetOutput sheet
   -- and all runs together print it
-  pub runs : (room : ℕ) → longestLine MOST ≤ room → runsOutput (length sheet) sheet room (standAt 0 1 blank) ≡ sheetOutput sheet
+  pub runs : (room : ℕ) → longestLine MOST ≤ room → runsOutput (length sheet) sheet room (standAt 0 1 start) ≡ sheetOutput sheet
 
 abbrev pub WholeSheet : Type 0
 WholeSheet = (sheet : Bytes) → length sheet ≤ LONGEST → FromStart sheet
@@ -195,9 +147,9 @@ WholeSheet = (sheet : Bytes) → length sheet ≤ LONGEST → FromStart sheet
 -- ---- any two outcomes that a promise permits are equal
 
 pub record OneOutcome : Type 0 where
-  pub line : (number : ℕ) (line : Bytes) (before after after′ : Lent) (out : Bytes) (at : ℕ) (left left′ : Bytes) (next next′ : ℕ)
+  pub line : (number : ℕ) (line : Bytes) (before after after′ : State) (out : Bytes) (at : ℕ) (left left′ : Bytes) (next next′ : ℕ)
       → RanOne number line before after out at left next → RanOne number line before after′ out at left′ next′
       → (after ≡ after′) × (left ≡ left′) × (next ≡ next′)
-  pub lines : (sheet : Bytes) (at number : ℕ) (before after after′ : Lent) (out left left′ : Bytes) (r r′ : Run)
+  pub lines : (sheet : Bytes) (at number : ℕ) (before after after′ : State) (out left left′ : Bytes) (r r′ : Run)
       → RanLines sheet at number before after out left r → RanLines sheet at number before after′ out left′ r′
       → (after ≡ after′) × (left ≡ left′) × (r ≡ r′)

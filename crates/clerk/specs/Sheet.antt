@@ -3,16 +3,15 @@ use Prim.Native.Nat.{ℕ, _+_}
 use mathlib.Core.Bool.{cond}
 use mathlib.Core.List.{List, [], _∷_, _++_}
 use lib.Dec.{ltb}
-use lib.IntN.{ℤ, pos}
 use lib.ListN.{length, take, replicate}
 use Rattle.table.specs.Figures.{MOST}
 use Rattle.table.specs.Words.{Words}
-use Rattle.filter.specs.Query.{Record}
 use Rattle.table.specs.declared.given.Given.{Given}
 use Rattle.table.specs.declared.given.Given.the-variants as given
 use Rattle.table.specs.Given.{numberGiven}
 use Rattle.desk.specs.Refusals.{site, enrolGives, withdrawGives}
 use Rattle.desk.specs.Calls.{ifDone, afterEnrol, afterWithdraw, Queried, afterQuery}
+use Rattle.desk.specs.Alone.{blankList}
 use Rattle.table.specs.Empty.{emptyTable}
 use Rattle.sheet.specs.Bytes.{Bytes, linesOf}
 use Rattle.sheet.specs.declared.job.Job.{Job}
@@ -20,10 +19,9 @@ use Rattle.sheet.specs.declared.job.Job.the-variants.{Enrol, Withdraw, Query, M
 use Rattle.sheet.specs.Job.{jobOf}
 use Rattle.sheet.specs.Output.{letterOf, outputLine}
 
--- the table and the two lists
+-- the table and the answer list; the candidate list is the query's own
 pub record State : Type 0 where
   pub words : Words
-  pub candidates : List Record
   pub answers : List ℕ
 
 -- after a job: the state, what is given back, and the further numbers of a granted query
@@ -32,9 +30,9 @@ pub record Ran : Type 0 where
   pub given : Given
   pub more : List ℕ
 
--- the same lists, another table
+-- the same answer list, another table
 abbrev pub withWords : State → Words → State
-withWords st ws = record { words = ws; candidates = st .candidates; answers = st .answers }
+withWords st ws = record { words = ws; answers = st .answers }
 
 -- n, m, o and the n point numbers
 abbrev pub granted : Queried → List ℕ
@@ -43,7 +41,7 @@ granted r = r .counts .n ∷ r .counts .m ∷ r .counts .o ∷ take (r .counts .
 abbrev pub queried : State → Queried → Ran
 queried st r =
     record {
-      state = record { words = st .words; candidates = r .candidates; answers = r .answers };
+      state = record { words = st .words; answers = r .answers };
       given = r .given;
       more = ifDone (r .given) (granted r) [];
     }
@@ -51,7 +49,7 @@ queried st r =
 abbrev pub ranJob : State → Job → Ran
 ranJob st (Enrol n a b) = record { state = withWords st (afterEnrol (st .words) n (site a b)); given = enrolGives (st .words) n (site a b); more = [] }
 ranJob st (Withdraw n) = record { state = withWords st (afterWithdraw (st .words) n); given = withdrawGives (st .words) n; more = [] }
-ranJob st (Query a b k) = queried st (afterQuery (st .words) (site a b) k (st .candidates) (st .answers))
+ranJob st (Query a b k) = queried st (afterQuery (st .words) (site a b) k blankList (st .answers))
 ranJob st MissingK = record { state = st; given = given.NoSuchK; more = [] }
 ranJob st Misshapen = record { state = st; given = given.Misshapen; more = [] }
 
@@ -76,12 +74,9 @@ LONGEST = 65536
 abbrev pub tooLongLine : Bytes
 tooLongLine = outputLine 0 63 12 []
 
--- the empty table and lists of 500
-abbrev pub blankRecord : Record
-blankRecord = record { number = 0; x = pos 0; y = pos 0; square = 0 }
-
+-- the empty table, and an answer list of 500
 abbrev pub start : State
-start = record { words = emptyTable; candidates = replicate MOST blankRecord; answers = replicate MOST 0 }
+start = record { words = emptyTable; answers = replicate MOST 0 }
 
 -- what the program prints for a sheet
 unfoldable pub sheetOutput : Bytes → Bytes

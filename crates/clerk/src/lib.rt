@@ -1,5 +1,5 @@
-// The clerk runs a job sheet: each line's job on the table and the lists, and the bytes of each output line.
-// It promises, by the definition of a whole sheet in specs/, every byte that is laid, the table and the lists after each line.
+// The clerk runs a job sheet: each line's job on the table and the answer list, and the bytes of each output line.
+// It promises, by the definition of a whole sheet in specs/, every byte that is laid, the table and the answer list after each line.
 // It stands on sheet (what a line asks for, the bytes of an output line) and desk (the calls on a table that passes the check).
 pub mod line;
 pub mod run;

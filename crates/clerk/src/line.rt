@@ -2,10 +2,9 @@
 // The sheet's table passes the check by the invariant of the loop over the lines, so no line pays for a check.
 ghost use Prim.Native.Nat.{_+_, _≤_};
 ghost use lib.ListN.{length};
-ghost use Rattle.filter.specs.Rows.{rows};
 ghost use Rattle.clerk.specs.Running.{lent, Passes, longestLine, RanJob, RanOne};
+use desk::answers::answers_passing;
 use desk::enrol::enrol_passing;
-use desk::query::query_passing;
 use desk::withdraw::withdraw_passing;
 use sheet::job::Job;
 use sheet::job::job_of;
@@ -21,10 +20,6 @@ fn run_query(
     k: i32,
     number: u64,
     table: &[i32],
-    numbers: &mut [i32],
-    xs: &mut [i32],
-    ys: &mut [i32],
-    squares: &mut [u64],
     answers: &mut [u32],
     out: &mut [u8],
     at: usize,
@@ -33,16 +28,11 @@ fn run_query(
     ensures { λ r.
         ⌜
         RanJob number (Job.Query x y k)
-        (lent (now (table .entry))
-        (rows (now (numbers .entry)) (now (xs .entry)) (now (ys .entry)) (now (squares .entry)))
-        (now (answers .entry)))
-        (lent (now (table .entry))
-        (rows (now (numbers .exit)) (now (xs .exit)) (now (ys .exit)) (now (squares .exit)))
-        (now (answers .exit)))
+        (lent (now (table .entry)) (now (answers .entry))) (lent (now (table .entry)) (now (answers .exit)))
         (now (out .entry)) at (now (out .exit)) r
         ⌝ }
 {
-    let r = query_passing(table, x, y, k, numbers, xs, ys, squares, answers);
+    let r = answers_passing(table, x, y, k, answers);
     let given = r.given;
     let Given::Done = given else {
         return put_line(out, at, number, b'Q', number_given(given));
@@ -55,10 +45,6 @@ pub fn run_line(
     line: &[u8],
     number: u64,
     table: &mut [i32],
-    numbers: &mut [i32],
-    xs: &mut [i32],
-    ys: &mut [i32],
-    squares: &mut [u64],
     answers: &mut [u32],
     out: &mut [u8],
     at: usize,
@@ -67,12 +53,7 @@ pub fn run_line(
     ensures { λ r.
         ⌜
         RanOne number (now (line .entry))
-        (lent (now (table .entry))
-        (rows (now (numbers .entry)) (now (xs .entry)) (now (ys .entry)) (now (squares .entry)))
-        (now (answers .entry)))
-        (lent (now (table .exit))
-        (rows (now (numbers .exit)) (now (xs .exit)) (now (ys .exit)) (now (squares .exit)))
-        (now (answers .exit)))
+        (lent (now (table .entry)) (now (answers .entry))) (lent (now (table .exit)) (now (answers .exit)))
         (now (out .entry)) at (now (out .exit)) r
         ⌝ }
 {
@@ -86,20 +67,7 @@ pub fn run_line(
             let given = withdraw_passing(table, n);
             put_line(out, at, number, b'W', number_given(given))
         }
-        Job::Query(x, y, k) => run_query(
-            x,
-            y,
-            k,
-            number,
-            table,
-            numbers,
-            xs,
-            ys,
-            squares,
-            answers,
-            out,
-            at,
-        ),
+        Job::Query(x, y, k) => run_query(x, y, k, number, table, answers, out, at),
         Job::MissingK => put_line(out, at, number, b'Q', number_given(Given::NoSuchK)),
         Job::Misshapen => put_line(out, at, number, b'?', number_given(Given::Misshapen)),
     }

@@ -2,7 +2,6 @@
 ghost use mathlib.Core.Path.{_≡_};
 ghost use Prim.Native.Nat.{_+_, _≤_, _<_, _^_};
 ghost use lib.ListN.{length};
-ghost use Rattle.filter.specs.Rows.{rows};
 ghost use Rattle.clerk.specs.Running.{lent, Passes, longestLine, RanLines};
 use crate::line::run_line;
 use desk::words::are_words;
@@ -30,10 +29,6 @@ pub fn run_lines(
     at: usize,
     number: u64,
     table: &mut [i32],
-    numbers: &mut [i32],
-    xs: &mut [i32],
-    ys: &mut [i32],
-    squares: &mut [u64],
     answers: &mut [u32],
     out: &mut [u8],
 ) -> Run
@@ -44,12 +39,7 @@ pub fn run_lines(
     ensures { λ r.
         ⌜
         RanLines (now (sheet .entry)) at number
-        (lent (now (table .entry))
-        (rows (now (numbers .entry)) (now (xs .entry)) (now (ys .entry)) (now (squares .entry)))
-        (now (answers .entry)))
-        (lent (now (table .exit))
-        (rows (now (numbers .exit)) (now (xs .exit)) (now (ys .exit)) (now (squares .exit)))
-        (now (answers .exit)))
+        (lent (now (table .entry)) (now (answers .entry))) (lent (now (table .exit)) (now (answers .exit)))
         (now (out .entry)) (now (out .exit)) r
         ⌝ }
 {
@@ -66,18 +56,7 @@ pub fn run_lines(
             return run;
         }
         let line = line_at(sheet, run.at);
-        let filled = run_line(
-            line,
-            run.number,
-            table,
-            numbers,
-            xs,
-            ys,
-            squares,
-            answers,
-            out,
-            run.filled,
-        );
+        let filled = run_line(line, run.number, table, answers, out, run.filled);
         run = Run {
             at: next_at(sheet, run.at),
             number: run.number + 1,

@@ -123,7 +123,7 @@ module _ (ws : Words) (q : Site) (k : ℤ) where
 
 -- ---- any two outcomes that the promise permits are equal
 
-answered-ext : {r s : Answered} → r .given ≡ s .given → r .n ≡ s .n → r .m ≡ s .m → r .o ≡ s .o → r ≡ s
+pub answered-ext : {r s : Answered} → r .given ≡ s .given → r .n ≡ s .n → r .m ≡ s .m → r .o ≡ s .o → r ≡ s
 answered-ext g n m o = λ i. record { given = g i; n = n i; m = m i; o = o i }
 
 pub answers-once : {ws : Words} {q : Site} {k : ℤ} {before after after′ : List Candidate} {old new new′ : List ℕ} {r r′ : Answered}

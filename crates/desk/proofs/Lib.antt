@@ -9,3 +9,4 @@ pub mod CallNumbers
 pub mod CallOrder
 pub mod CallQuery
 pub mod CallList
+pub mod CallAlone

@@ -2,6 +2,7 @@
 // It promises for all inputs what each call returns and what every lent word holds afterwards.
 // Only the calls named `.._passing` have a `requires`: that the table passes the check. The job sheet knows that of its table.
 // It stands on audit (the check), change (enrolment and withdrawal), filter (the query's definitions) and row (the query). Its proofs hold the three demands.
+pub mod answers;
 pub mod check;
 pub mod enrol;
 pub mod query;

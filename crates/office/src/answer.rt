@@ -22,10 +22,6 @@ fn answer_lines(
     sheet: &[u8],
     fd: i32,
     table: &mut [i32],
-    numbers: &mut [i32],
-    xs: &mut [i32],
-    ys: &mut [i32],
-    squares: &mut [u64],
     answers: &mut [u32],
     out: &mut [u8],
 ) -> bool
@@ -34,18 +30,7 @@ fn answer_lines(
     let mut at = 0;
     let mut number = 1;
     while at < sheet.len() {
-        let run = run_lines(
-            sheet,
-            at,
-            number,
-            table,
-            numbers,
-            xs,
-            ys,
-            squares,
-            answers,
-            out,
-        );
+        let run = run_lines(sheet, at, number, table, answers, out);
         let filled = run.filled;
         if !io::write_all(fd, &out[..filled]) {
             return false;
@@ -56,29 +41,15 @@ fn answer_lines(
     true
 }
 
-// A sheet starts with the empty table and lists of 500.
+// A sheet starts with the empty table and an answer list of 500; each query makes its own candidate list of 500.
 fn answer_all(sheet: &[u8], fd: i32) -> bool
     requires { ⌜ length (now sheet) ≤ LONGEST ⌝ }
 {
     let mut table = [0i32; Table::LENGTH];
-    let mut numbers = [0i32; Table::MOST];
-    let mut xs = [0i32; Table::MOST];
-    let mut ys = [0i32; Table::MOST];
-    let mut squares = [0u64; Table::MOST];
     let mut answers = [0u32; Table::MOST];
     let mut out = [0u8; ROOM];
     clear(&mut table);
-    answer_lines(
-        sheet,
-        fd,
-        &mut table,
-        &mut numbers,
-        &mut xs,
-        &mut ys,
-        &mut squares,
-        &mut answers,
-        &mut out,
-    )
+    answer_lines(sheet, fd, &mut table, &mut answers, &mut out)
 }
 
 // The one line that a sheet too long prints.
@@ -97,7 +68,7 @@ fn answer_too_long(fd: i32) -> bool {
 }
 
 // Writes what a sheet prints, and says whether every byte of it was taken.
-pub fn answer(sheet: &[u8], fd: i32) -> bool {
+pub(crate) fn answer(sheet: &[u8], fd: i32) -> bool {
     if sheet.len() > LONGEST {
         return answer_too_long(fd);
     }

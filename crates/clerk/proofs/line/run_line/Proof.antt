@@ -1,7 +1,6 @@
 -- `clerk::line::run_line` meets its contract, job by job. Assumes nothing.
 use mathlib.Core.Path.{sym, subst, _∙_}
 use mathlib.Core.List.{[]}
-use Rattle.filter.specs.Rows.{Rows, rows}
 use Rattle.desk.specs.Refusals.{site, enrolGives, withdrawGives}
 use Rattle.desk.specs.Calls.{afterEnrol, afterWithdraw}
 use Rattle.desk.proofs.CallTests.{one-passed, three-passed, three-back}
@@ -13,10 +12,6 @@ use Rattle.clerk.proofs.Jobs.{line-ran, enrol-ran, withdraw-ran, missin
 use borrow.Author.Needs.{needs}
 use Rattle.clerk.proofs.line.run_line.Statement.{statement}
 use Rattle.clerk.proofs.line.run_line.Tie as tie
-
--- the four rows as they are lent
-abbrev lentRows : tie.Start → Rows
-lentRows s = rows (s .args .numbers .now) (s .args .xs .now) (s .args .ys .now) (s .args .squares .now)
 
 job-of-requires : tie.Need-job-of-requires
 job-of-requires c κs = search needs
@@ -78,7 +73,7 @@ same-length-2 c = search needs
 returns : tie.Need-returns
 returns c =
     let t = c .before .before .before .before .before .before .before .before in
-    let s = c .before .before .before .before .before .before .before .before .before .before .before .before .before .before .before .before in
+    let s = c .before .before .before .before .before .before .before .before .before .before .before .before .before .before .before in
     let a = s .args in
     let ws = a .table .now in
     let j = t .before .job .given in
@@ -92,7 +87,7 @@ returns c =
     let words = three-passed (λ u v w. afterEnrol ws u (site v w)) n x y (record { sfits = fits .0 .1 }) (record { sfits = fits .1 .0 .1 }) (record { sfits = fits .1 .1 .0 .1 }) (e .ensures .1) in
     let laid = subst (λ g. Laid (a .out .now) (a .at) (outputLine (a .number) ENROL g []) (p .last .0) (p .result)) (c .before .before .before .number-given .ensures) (p .ensures) in
     line-ran (sym (j .1) ∙ t .before .before .before .job-of .ensures)
-    (enrol-ran (a .number) ws (e .last .0) (lentRows s) (a .answers .now) (a .out .now) (a .at) (p .last .0) (p .result) n x y given words laid)
+    (enrol-ran (a .number) ws (e .last .0) (a .answers .now) (a .out .now) (a .at) (p .last .0) (p .result) n x y given words laid)
 
 same-length-3 : tie.Need-same-length-3
 same-length-3 c = search needs
@@ -103,7 +98,7 @@ same-length-4 c = search needs
 returns-2 : tie.Need-returns-2
 returns-2 c =
     let t = c .before .before .before .before .before .before .before .before in
-    let s = c .before .before .before .before .before .before .before .before .before .before .before .before .before .before .before .before in
+    let s = c .before .before .before .before .before .before .before .before .before .before .before .before .before .before .before in
     let a = s .args in
     let ws = a .table .now in
     let j = t .before .job2 .given in
@@ -115,7 +110,7 @@ returns-2 c =
     let words = one-passed (λ u. afterWithdraw ws u) n (record { sfits = fits .0 .1 }) (w .ensures .1) in
     let laid = subst (λ g. Laid (a .out .now) (a .at) (outputLine (a .number) WITHDRAW g []) (p .last .0) (p .result)) (c .before .before .before .number-given2 .ensures) (p .ensures) in
     line-ran (sym (j .1) ∙ t .before .before .before .job-of .ensures)
-    (withdraw-ran (a .number) ws (w .last .0) (lentRows s) (a .answers .now) (a .out .now) (a .at) (p .last .0) (p .result) n given words laid)
+    (withdraw-ran (a .number) ws (w .last .0) (a .answers .now) (a .out .now) (a .at) (p .last .0) (p .result) n given words laid)
 
 same-length-5 : tie.Need-same-length-5
 same-length-5 c = search needs
@@ -126,59 +121,47 @@ same-length-6 c = search needs
 same-length-7 : tie.Need-same-length-7
 same-length-7 c = search needs
 
-same-length-8 : tie.Need-same-length-8
-same-length-8 c = search needs
-
-same-length-9 : tie.Need-same-length-9
-same-length-9 c = search needs
-
-same-length-10 : tie.Need-same-length-10
-same-length-10 c = search needs
-
-same-length-11 : tie.Need-same-length-11
-same-length-11 c = search needs
-
 returns-3 : tie.Need-returns-3
 returns-3 c =
-    let t = c .before .before .before .before .before .before .before .before .before .before .before .before .before .before .before .before .before in
-    let s = c .before .before .before .before .before .before .before .before .before .before .before .before .before .before .before .before .before .before .before .before .before .before .before .before .before in
+    let t = c .before .before .before .before .before .before .before .before in
+    let s = c .before .before .before .before .before .before .before .before .before .before .before .before .before .before .before in
     let a = s .args in
     let ws = a .table .now in
     let j = t .before .job3 .given in
     let fits = t .known-told3 .given in
-    let q = c .before .before .before .before .before .before .before .before .before .run-query in
+    let q = c .before .before .before .before .run-query in
     let l = q .last .1 .1 .1 .1 .1 in
-    let after = lent ws (rows (l .0) (l .1 .0) (l .1 .1 .0) (l .1 .1 .1 .0)) (l .1 .1 .1 .1 .0) in
+    let after = lent ws (l .0) in
     let ran =
-    three-back (λ u v w. RanJob (a .number) (Query u v w) (lent ws (lentRows s) (a .answers .now)) after (a .out .now) (a .at) (l .1 .1 .1 .1 .1 .0) (q .result)) (j .0 .0) (j .0 .1 .0) (j .0 .1 .1 .0)
+    three-back (λ u v w. RanJob (a .number) (Query u v w) (lent ws (a .answers .now)) after (a .out .now) (a .at) (l .1 .0) (q .result)) (j .0 .0) (j .0 .1 .0) (j .0 .1 .1 .0)
     (record { sfits = fits .0 .1 }) (record { sfits = fits .1 .0 .1 }) (record { sfits = fits .1 .1 .0 .1 }) (q .ensures) in
     line-ran (sym (j .1) ∙ t .before .before .before .job-of .ensures) ran
 
-same-length-12 : tie.Need-same-length-12
-same-length-12 c = search needs
+same-length-8 : tie.Need-same-length-8
+same-length-8 c = search needs
 
 returns-4 : tie.Need-returns-4
 returns-4 c =
     let t = c .before .before .before .before .before in
-    let s = c .before .before .before .before .before .before .before .before .before .before .before .before in
+    let s = c .before .before .before .before .before .before .before .before .before .before .before in
     let a = s .args in
     let p = c .before .before .put-line3 in
     let laid = subst (λ g. Laid (a .out .now) (a .at) (outputLine (a .number) QUERY g []) (p .last .0) (p .result)) (c .before .before .before .number-given3 .ensures) (p .ensures) in
     line-ran (sym (t .enum-told .given .1) ∙ t .before .before .job-of .ensures)
-    (missing-ran (a .number) (lent (a .table .now) (lentRows s) (a .answers .now)) (a .out .now) (a .at) (p .last .0) (p .result) laid)
+    (missing-ran (a .number) (lent (a .table .now) (a .answers .now)) (a .out .now) (a .at) (p .last .0) (p .result) laid)
 
-same-length-13 : tie.Need-same-length-13
-same-length-13 c = search needs
+same-length-9 : tie.Need-same-length-9
+same-length-9 c = search needs
 
 returns-5 : tie.Need-returns-5
 returns-5 c =
     let t = c .before .before .before .before .before in
-    let s = c .before .before .before .before .before .before .before .before .before .before .before .before in
+    let s = c .before .before .before .before .before .before .before .before .before .before .before in
     let a = s .args in
     let p = c .before .before .put-line4 in
     let laid = subst (λ g. Laid (a .out .now) (a .at) (outputLine (a .number) 63 g []) (p .last .0) (p .result)) (c .before .before .before .number-given4 .ensures) (p .ensures) in
     line-ran (sym (t .enum-told2 .given .1) ∙ t .before .before .job-of .ensures)
-    (misshapen-ran (a .number) (lent (a .table .now) (lentRows s) (a .answers .now)) (a .out .now) (a .at) (p .last .0) (p .result) laid)
+    (misshapen-ran (a .number) (lent (a .table .now) (a .answers .now)) (a .out .now) (a .at) (p .last .0) (p .result) laid)
 
 pub run-line-spec : {M : Type 1} → statement M
 run-line-spec =
@@ -210,12 +193,8 @@ run-line-spec =
     same-length-5
     same-length-6
     same-length-7
-    same-length-8
-    same-length-9
-    same-length-10
-    same-length-11
     returns-3
-    same-length-12
+    same-length-8
     returns-4
-    same-length-13
+    same-length-9
     returns-5)

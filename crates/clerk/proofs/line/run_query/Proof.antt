@@ -2,9 +2,8 @@
 use mathlib.Core.Path.{subst}
 use mathlib.Core.List.{[]}
 use native.Mathlib.Omega.{arith}
-use Rattle.filter.specs.Rows.{rows}
 use Rattle.desk.specs.Refusals.{site}
-use Rattle.desk.specs.Lent.{Answers}
+use Rattle.desk.specs.Alone.{AnswersAlone}
 use Rattle.desk.proofs.CallTests.{three-back}
 use Rattle.desk.proofs.CallOrder.{not-done}
 use Rattle.sheet.specs.Job.{QUERY}
@@ -14,8 +13,8 @@ use borrow.Author.Needs.{needs}
 use Rattle.clerk.proofs.line.run_query.Statement.{statement}
 use Rattle.clerk.proofs.line.run_query.Tie as tie
 
-query-passing-requires : tie.Need-query-passing-requires
-query-passing-requires c κs = search needs
+answers-passing-requires : tie.Need-answers-passing-requires
+answers-passing-requires c κs = search needs
 
 enum-told : tie.Need-enum-told
 enum-told c = search needs
@@ -32,99 +31,58 @@ same-length c = search needs
 same-length-2 : tie.Need-same-length-2
 same-length-2 c = search needs
 
+returns : tie.Need-returns
+returns c =
+    let s = c .before .before .before .before .before .before .before .before .before .before .before .before in
+    let a = s .args in
+    let y = c .before .before .before .before .before .before .before .before .answers-passing in
+    let new = y .last .1 .1 .1 .1 .0 in
+    let told = three-back (λ u v w. AnswersAlone (a .table .now) (site u v) w (a .answers .now) new (y .result)) (a .x) (a .y) (a .k) (s .fits .x) (s .fits .y) (s .fits .k) (y .ensures) in
+    let p = c .before .before .put-line in
+    let laid = subst (λ n. Laid (a .out .now) (a .at) (outputLine (a .number) QUERY n []) (p .last .0) (p .result)) (c .before .before .before .number-given .ensures) (p .ensures) in
+    refused-ran (a .number) (a .table .now) (a .x) (a .y) (a .k) (a .answers .now) new (y .result) told (a .out .now) (a .at) (p .last .0) (p .result)
+    (not-done _ (c .before .before .before .before .before .match .keys2)) laid
+
+put-answers-requires : tie.Need-put-answers-requires
+put-answers-requires c κs =
+    let s = c .before .before .before .before .before .before .before .before .before .before in
+    let a = s .args in
+    let y = c .before .before .before .before .before .before .answers-passing in
+    let new = y .last .1 .1 .1 .1 .0 in
+    let told = three-back (λ u v w. AnswersAlone (a .table .now) (site u v) w (a .answers .now) new (y .result)) (a .x) (a .y) (a .k) (s .fits .x) (s .fits .y) (s .fits .k) (y .ensures) in
+    let room = answers-room (a .number) (a .table .now) (a .x) (a .y) (a .k) (a .answers .now) new (y .result) told (a .out .now) (a .at) (a .out .now) (a .at)
+    (c .before .before .enum-told .given .1) in
+    (omega (arith, room, s .pre .1), omega (arith, room, y .kept .1 .1 .1 .1 .0))
+
 same-length-3 : tie.Need-same-length-3
 same-length-3 c = search needs
 
 same-length-4 : tie.Need-same-length-4
 same-length-4 c = search needs
 
-same-length-5 : tie.Need-same-length-5
-same-length-5 c = search needs
-
-same-length-6 : tie.Need-same-length-6
-same-length-6 c = search needs
-
-returns : tie.Need-returns
-returns c =
-    let s = c .before .before .before .before .before .before .before .before .before .before .before .before .before .before .before .before .before .before .before .before .before .before in
-    let a = s .args in
-    let y = c .before .before .before .before .before .before .before .before .before .before .before .before .before .query-passing in
-    let l = y .last .1 .1 .1 .1 in
-    let before = rows (a .numbers .now) (a .xs .now) (a .ys .now) (a .squares .now) in
-    let after = rows (l .0) (l .1 .0) (l .1 .1 .0) (l .1 .1 .1 .0) in
-    let new = l .1 .1 .1 .1 .0 in
-    let told = three-back (λ u v w. Answers (a .table .now) (site u v) w before after (a .answers .now) new (y .result)) (a .x) (a .y) (a .k) (s .fits .x) (s .fits .y) (s .fits .k) (y .ensures) in
-    let p = c .before .before .put-line in
-    let laid = subst (λ n. Laid (a .out .now) (a .at) (outputLine (a .number) QUERY n []) (p .last .0) (p .result)) (c .before .before .before .number-given .ensures) (p .ensures) in
-    refused-ran (a .number) (a .table .now) (a .x) (a .y) (a .k) before after (a .answers .now) new (y .result) told (a .out .now) (a .at) (p .last .0) (p .result)
-    (not-done _ (c .before .before .before .before .before .match .keys2)) laid
-
-put-answers-requires : tie.Need-put-answers-requires
-put-answers-requires c κs =
-    let s = c .before .before .before .before .before .before .before .before .before .before .before .before .before .before .before .before .before .before .before .before in
-    let a = s .args in
-    let y = c .before .before .before .before .before .before .before .before .before .before .before .query-passing in
-    let l = y .last .1 .1 .1 .1 in
-    let before = rows (a .numbers .now) (a .xs .now) (a .ys .now) (a .squares .now) in
-    let after = rows (l .0) (l .1 .0) (l .1 .1 .0) (l .1 .1 .1 .0) in
-    let new = l .1 .1 .1 .1 .0 in
-    let told = three-back (λ u v w. Answers (a .table .now) (site u v) w before after (a .answers .now) new (y .result)) (a .x) (a .y) (a .k) (s .fits .x) (s .fits .y) (s .fits .k) (y .ensures) in
-    let room = answers-room (a .number) (a .table .now) (a .x) (a .y) (a .k) before after (a .answers .now) new (y .result) told (a .out .now) (a .at) (a .out .now) (a .at)
-    (c .before .before .enum-told .given .1) in
-    (omega (arith, room, s .pre .1), omega (arith, room, y .kept .1 .1 .1 .1 .1 .1 .1 .1 .0))
-
-same-length-7 : tie.Need-same-length-7
-same-length-7 c = search needs
-
-same-length-8 : tie.Need-same-length-8
-same-length-8 c = search needs
-
-same-length-9 : tie.Need-same-length-9
-same-length-9 c = search needs
-
-same-length-10 : tie.Need-same-length-10
-same-length-10 c = search needs
-
-same-length-11 : tie.Need-same-length-11
-same-length-11 c = search needs
-
-same-length-12 : tie.Need-same-length-12
-same-length-12 c = search needs
-
 returns-2 : tie.Need-returns-2
 returns-2 c =
-    let s = c .before .before .before .before .before .before .before .before .before .before .before .before .before .before .before .before .before .before .before .before .before .before .before in
+    let s = c .before .before .before .before .before .before .before .before .before .before .before .before .before in
     let a = s .args in
-    let y = c .before .before .before .before .before .before .before .before .before .before .before .before .before .before .query-passing in
-    let l = y .last .1 .1 .1 .1 in
-    let before = rows (a .numbers .now) (a .xs .now) (a .ys .now) (a .squares .now) in
-    let after = rows (l .0) (l .1 .0) (l .1 .1 .0) (l .1 .1 .1 .0) in
-    let new = l .1 .1 .1 .1 .0 in
-    let told = three-back (λ u v w. Answers (a .table .now) (site u v) w before after (a .answers .now) new (y .result)) (a .x) (a .y) (a .k) (s .fits .x) (s .fits .y) (s .fits .k) (y .ensures) in
+    let y = c .before .before .before .before .before .before .before .before .before .answers-passing in
+    let new = y .last .1 .1 .1 .1 .0 in
+    let told = three-back (λ u v w. AnswersAlone (a .table .now) (site u v) w (a .answers .now) new (y .result)) (a .x) (a .y) (a .k) (s .fits .x) (s .fits .y) (s .fits .k) (y .ensures) in
     let p = c .before .before .put-answers in
-    granted-ran (a .number) (a .table .now) (a .x) (a .y) (a .k) before after (a .answers .now) new (y .result) told (a .out .now) (a .at) (p .last .0) (p .result)
+    granted-ran (a .number) (a .table .now) (a .x) (a .y) (a .k) (a .answers .now) new (y .result) told (a .out .now) (a .at) (p .last .0) (p .result)
     (c .before .before .before .before .before .enum-told .given .1) (p .ensures)
 
 pub run-query-spec : {M : Type 1} → statement M
 run-query-spec =
     tie.close
     (tie.spec
-    query-passing-requires
+    answers-passing-requires
     enum-told
     number-given-requires
     put-line-requires
     same-length
     same-length-2
-    same-length-3
-    same-length-4
-    same-length-5
-    same-length-6
     returns
     put-answers-requires
-    same-length-7
-    same-length-8
-    same-length-9
-    same-length-10
-    same-length-11
-    same-length-12
+    same-length-3
+    same-length-4
     returns-2)

@@ -4,21 +4,20 @@ use mathlib.Core.Path.{_≡_, refl, sym, subst, _∙_}
 use native.Mathlib.Omega.{arith}
 use lib.ListN.{length}
 use borrow.Author.Needs.{needs}
-use Rattle.filter.specs.Rows.{rows}
 use Rattle.sheet.specs.Bytes.{FEED}
 use Rattle.sheet.proofs.Parted.{next-beyond}
-use Rattle.clerk.specs.Running.{lent, RanOne, SameLengths}
+use Rattle.clerk.specs.Running.{lent, RanOne}
 use Rattle.clerk.proofs.Going.{Going, going-first, going-more, going-end, going-full}
 use Rattle.clerk.proofs.run.run_lines.Statement.{statement}
 use Rattle.clerk.proofs.run.run_lines.Tie as tie
 
 abbrev Inv-loop : tie.InvT-loop
-Inv-loop sheet at number table₀ numbers₀ xs₀ ys₀ squares₀ answers₀ out₀ need run₀ table numbers xs ys squares answers out run =
-    Going sheet at number (lent table₀ (rows numbers₀ xs₀ ys₀ squares₀) answers₀) out₀ (lent table (rows numbers xs ys squares) answers) out run
+Inv-loop sheet at number table₀ answers₀ out₀ need run₀ table answers out run =
+    Going sheet at number (lent table₀ answers₀) out₀ (lent table answers) out run
     × (length out ≡ length out₀)
 
 abbrev μ-loop : tie.MeasureT-loop
-μ-loop sheet at number table₀ numbers₀ xs₀ ys₀ squares₀ answers₀ out₀ need run₀ table numbers xs ys squares answers out run =
+μ-loop sheet at number table₀ answers₀ out₀ need run₀ table answers out run =
     length sheet - run .at
 
 are-words-requires : tie.Need-are-words-requires Inv-loop μ-loop
@@ -29,9 +28,9 @@ longest-line-requires c κs = search needs
 
 loop-holds : tie.Need-loop-holds Inv-loop μ-loop
 loop-holds c =
-    let s = c .before .before .before .before .before .before .before in
+    let s = c .before .before .before .before .before .before in
     let a = s .args in
-    let before = lent (a .table .now) (rows (a .numbers .now) (a .xs .now) (a .ys .now) (a .squares .now)) (a .answers .now) in
+    let before = lent (a .table .now) (a .answers .now) in
     (going-first (a .sheet .now) (a .at) (a .number) before (a .out .now) (record { long = s .pre .0 .long; words = c .before .are-words .ensures; rules = s .pre .0 .rules }) (s .pre .1), refl)
 
 add-if2 : tie.Need-add-if2 Inv-loop μ-loop
@@ -46,18 +45,6 @@ same-length-2 c = search needs
 same-length-3 : tie.Need-same-length-3 Inv-loop μ-loop
 same-length-3 c = search needs
 
-same-length-4 : tie.Need-same-length-4 Inv-loop μ-loop
-same-length-4 c = search needs
-
-same-length-5 : tie.Need-same-length-5 Inv-loop μ-loop
-same-length-5 c = search needs
-
-same-length-6 : tie.Need-same-length-6 Inv-loop μ-loop
-same-length-6 c = search needs
-
-same-length-7 : tie.Need-same-length-7 Inv-loop μ-loop
-same-length-7 c = search needs
-
 returns : tie.Need-returns Inv-loop μ-loop
 returns c = going-full _ _ _ _ _ (c .before .before .before .before .loop .inv .0) (search needs) (search needs)
 
@@ -66,66 +53,53 @@ line-at-requires c κs = search needs
 
 run-line-requires : tie.Need-run-line-requires Inv-loop μ-loop
 run-line-requires c κs =
-    let l = c .before .before .before .before .before .before .before .before .before .before .before .before in
+    let l = c .before .before .before .before .before .before .before .before in
     let g = l .loop .inv .0 in
-    (record { long = g .passing .long; rules = g .passing .rules }, omega (arith, g .lengths .answers, l .loop .inv .1))
+    (record { long = g .passing .long; rules = g .passing .rules }, omega (arith, g .places, l .loop .inv .1))
 
 next-at-requires : tie.Need-next-at-requires Inv-loop μ-loop
 next-at-requires c κs = search needs
 
-add-t36 : tie.Need-add-t36 Inv-loop μ-loop
-add-t36 c =
-    let t = c .before .before .before .before .before .before .before .before .before .before .before .before .before .before .before .before .before .before .before .before .before in
-    let s = c .before .before .before .before .before .before .before .before .before .before .before .before .before .before .before .before .before .before .before .before .before .before .before .before .before .before .before .before .before .before .before .before .before in
+add-t24 : tie.Need-add-t24 Inv-loop μ-loop
+add-t24 c =
+    let t = c .before .before .before .before .before .before .before .before .before .before .before .before in
+    let s = c .before .before .before .before .before .before .before .before .before .before .before .before .before .before .before .before .before .before .before .before .before .before .before in
     omega (arith, t, s .pre .2, t .before .before .before .before .loop .inv .0 .numbered)
 
 loop-less : tie.Need-loop-less Inv-loop μ-loop
 loop-less c =
-    let t = c .before .before .before .before .before .before .before .before .before .before .before .before .before .before .before .before .before .before .before .before .before in
-    let s = c .before .before .before .before .before .before .before .before .before .before .before .before .before .before .before .before .before .before .before .before .before .before .before .before .before .before .before .before .before .before .before .before .before in
+    let t = c .before .before .before .before .before .before .before .before .before .before .before .before in
+    let s = c .before .before .before .before .before .before .before .before .before .before .before .before .before .before .before .before .before .before .before .before .before .before .before in
     omega (arith, t, next-beyond FEED (s .args .sheet .now) (t .before .before .before .before .loop .run .at) (omega (arith, t)), c .before .next-at .ensures)
 
 loop-again : tie.Need-loop-again Inv-loop μ-loop
 loop-again c =
-    let t = c .before .before .before .before .before .before .before .before .before .before .before .before .before .before .before .before .before .before .before .before .before in
+    let t = c .before .before .before .before .before .before .before .before .before .before .before .before in
     let o = t .before .before .before .before .loop in
-    let s = c .before .before .before .before .before .before .before .before .before .before .before .before .before .before .before .before .before .before .before .before .before .before .before .before .before .before .before .before .before .before .before .before .before in
+    let s = c .before .before .before .before .before .before .before .before .before .before .before .before .before .before .before .before .before .before .before .before .before .before .before in
     let a = s .args in
     let sheet = a .sheet .now in
-    let y = c .before .before .before .before .before .before .before .before .before .before .before .before .run-line in
+    let y = c .before .before .before .before .before .before .before .run-line in
     let e = y .last .1 .1 in
     let k = y .kept .1 .1 in
-    let before = lent (a .table .now) (rows (a .numbers .now) (a .xs .now) (a .ys .now) (a .squares .now)) (a .answers .now) in
-    let now = lent (o .table) (rows (o .numbers) (o .xs) (o .ys) (o .squares)) (o .answers) in
-    let after = lent (e .0) (rows (e .1 .0) (e .1 .1 .0) (e .1 .1 .1 .0) (e .1 .1 .1 .1 .0)) (e .1 .1 .1 .1 .1 .0) in
-    let left = e .1 .1 .1 .1 .1 .1 .0 in
-    let ran = subst (λ b. RanOne (o .run .number) b now after (o .out) (o .run .filled) left (y .result)) (c .before .before .before .before .before .before .before .before .before .before .before .before .before .before .before .before .before .before .before .before .line-at .ensures) (y .ensures) in
-    let same : SameLengths now after = record { numbers = k .1 .0; xs = k .1 .1 .0; ys = k .1 .1 .1 .0; squares = k .1 .1 .1 .1 .0; answers = k .1 .1 .1 .1 .1 .0 } in (
+    let before = lent (a .table .now) (a .answers .now) in
+    let now = lent (o .table) (o .answers) in
+    let after = lent (e .0) (e .1 .0) in
+    let left = e .1 .1 .0 in
+    let ran = subst (λ b. RanOne (o .run .number) b now after (o .out) (o .run .filled) left (y .result)) (c .before .before .before .before .before .before .before .before .before .before .before .line-at .ensures) (y .ensures) in (
       subst (λ n. Going sheet (a .at) (a .number) before (a .out .now) after left (record { at = n; number = o .run .number + 1; filled = y .result })) (sym (c .before .next-at .ensures))
-          (going-more sheet (a .at) (a .number) before (a .out .now) (o .inv .0) (omega (arith, t)) (omega (arith, t, o .inv .1)) ran same),
-      k .1 .1 .1 .1 .1 .1 .0 ∙ o .inv .1,
+          (going-more sheet (a .at) (a .number) before (a .out .now) (o .inv .0) (omega (arith, t)) (omega (arith, t, o .inv .1)) ran (k .1 .0)),
+      k .1 .1 .0 ∙ o .inv .1,
     )
 
-same-length-8 : tie.Need-same-length-8 Inv-loop μ-loop
-same-length-8 c = search needs
+same-length-4 : tie.Need-same-length-4 Inv-loop μ-loop
+same-length-4 c = search needs
 
-same-length-9 : tie.Need-same-length-9 Inv-loop μ-loop
-same-length-9 c = search needs
+same-length-5 : tie.Need-same-length-5 Inv-loop μ-loop
+same-length-5 c = search needs
 
-same-length-10 : tie.Need-same-length-10 Inv-loop μ-loop
-same-length-10 c = search needs
-
-same-length-11 : tie.Need-same-length-11 Inv-loop μ-loop
-same-length-11 c = search needs
-
-same-length-12 : tie.Need-same-length-12 Inv-loop μ-loop
-same-length-12 c = search needs
-
-same-length-13 : tie.Need-same-length-13 Inv-loop μ-loop
-same-length-13 c = search needs
-
-same-length-14 : tie.Need-same-length-14 Inv-loop μ-loop
-same-length-14 c = search needs
+same-length-6 : tie.Need-same-length-6 Inv-loop μ-loop
+same-length-6 c = search needs
 
 returns-2 : tie.Need-returns-2 Inv-loop μ-loop
 returns-2 c = going-end _ _ _ _ _ (c .before .before .loop .inv .0) (search needs)
@@ -143,22 +117,14 @@ run-lines-spec =
     same-length
     same-length-2
     same-length-3
-    same-length-4
-    same-length-5
-    same-length-6
-    same-length-7
     returns
     line-at-requires
     run-line-requires
     next-at-requires
-    add-t36
+    add-t24
     loop-less
     loop-again
-    same-length-8
-    same-length-9
-    same-length-10
-    same-length-11
-    same-length-12
-    same-length-13
-    same-length-14
+    same-length-4
+    same-length-5
+    same-length-6
     returns-2)

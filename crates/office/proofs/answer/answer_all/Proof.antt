@@ -19,20 +19,8 @@ slice-aggregate-answer-lines-2 c = search needs
 slice-aggregate-answer-lines-3 : tie.Need-slice-aggregate-answer-lines-3
 slice-aggregate-answer-lines-3 c = search needs
 
-slice-aggregate-answer-lines-4 : tie.Need-slice-aggregate-answer-lines-4
-slice-aggregate-answer-lines-4 c = search needs
-
-slice-aggregate-answer-lines-5 : tie.Need-slice-aggregate-answer-lines-5
-slice-aggregate-answer-lines-5 c = search needs
-
-slice-aggregate-answer-lines-6 : tie.Need-slice-aggregate-answer-lines-6
-slice-aggregate-answer-lines-6 c = search needs
-
-slice-aggregate-answer-lines-7 : tie.Need-slice-aggregate-answer-lines-7
-slice-aggregate-answer-lines-7 c = search needs
-
 answer-lines-requires : tie.Need-answer-lines-requires
-answer-lines-requires c κs = (start-passes (c .before .before .before .before .before .before .before .before .clear .ensures), c .before .before .before .before .before .before .before .before .before .before .before .pre, search needs)
+answer-lines-requires c κs = (start-passes (c .before .before .before .before .clear .ensures), c .before .before .before .before .before .before .before .pre, search needs)
 
 returns : tie.Need-returns
 returns c = search needs
@@ -46,9 +34,5 @@ answer-all-spec =
     slice-aggregate-answer-lines
     slice-aggregate-answer-lines-2
     slice-aggregate-answer-lines-3
-    slice-aggregate-answer-lines-4
-    slice-aggregate-answer-lines-5
-    slice-aggregate-answer-lines-6
-    slice-aggregate-answer-lines-7
     answer-lines-requires
     returns)

@@ -10,14 +10,12 @@ use Rattle.office.proofs.answer.answer_lines.Statement.{statement}
 use Rattle.office.proofs.answer.answer_lines.Tie as tie
 
 abbrev Inv-loop : tie.InvT-loop
-Inv-loop sheet fd table₀ numbers₀ xs₀ ys₀ squares₀ answers₀ out₀ at₀ number₀ table numbers xs ys squares answers out at number =
+Inv-loop sheet fd table₀ answers₀ out₀ at₀ number₀ table answers out at number =
     Passes table × (at ≤ length sheet) × (number ≤ at + 1)
-    × (length table ≡ length table₀) × (length numbers ≡ length numbers₀) × (length xs ≡ length xs₀) × (length ys ≡ length ys₀)
-    × (length squares ≡ length squares₀) × (length answers ≡ length answers₀) × (length out ≡ length out₀)
+    × (length table ≡ length table₀) × (length answers ≡ length answers₀) × (length out ≡ length out₀)
 
 abbrev μ-loop : tie.MeasureT-loop
-μ-loop sheet fd table₀ numbers₀ xs₀ ys₀ squares₀ answers₀ out₀ at₀ number₀ table numbers xs ys squares answers out at number =
-    length sheet - at
+μ-loop sheet fd table₀ answers₀ out₀ at₀ number₀ table answers out at number = length sheet - at
 
 loop-holds : tie.Need-loop-holds Inv-loop μ-loop
 loop-holds c = search needs
@@ -43,6 +41,21 @@ same-length-2 c = search needs
 same-length-3 : tie.Need-same-length-3 Inv-loop μ-loop
 same-length-3 c = search needs
 
+returns : tie.Need-returns Inv-loop μ-loop
+returns c = search needs
+
+loop-less : tie.Need-loop-less Inv-loop μ-loop
+loop-less c =
+    let r = c .before .before .before .before .before .before .before .before in
+    let e = r .run-lines .ensures in
+    omega (arith, e .further (search needs), e .within)
+
+loop-again : tie.Need-loop-again Inv-loop μ-loop
+loop-again c =
+    let r = c .before .before .before .before .before .before .before .before in
+    let e = r .run-lines .ensures in
+    (e .passes, e .within, omega (arith, e .numbered), search needs, search needs, search needs)
+
 same-length-4 : tie.Need-same-length-4 Inv-loop μ-loop
 same-length-4 c = search needs
 
@@ -51,45 +64,6 @@ same-length-5 c = search needs
 
 same-length-6 : tie.Need-same-length-6 Inv-loop μ-loop
 same-length-6 c = search needs
-
-same-length-7 : tie.Need-same-length-7 Inv-loop μ-loop
-same-length-7 c = search needs
-
-returns : tie.Need-returns Inv-loop μ-loop
-returns c = search needs
-
-loop-less : tie.Need-loop-less Inv-loop μ-loop
-loop-less c =
-    let r = c .before .before .before .before .before .before .before .before .before .before .before .before .before in
-    let e = r .run-lines .ensures in
-    omega (arith, e .further (search needs), e .within)
-
-loop-again : tie.Need-loop-again Inv-loop μ-loop
-loop-again c =
-    let r = c .before .before .before .before .before .before .before .before .before .before .before .before .before in
-    let e = r .run-lines .ensures in
-    (e .passes, e .within, omega (arith, e .numbered), search needs, search needs, search needs, search needs, search needs, search needs, search needs)
-
-same-length-8 : tie.Need-same-length-8 Inv-loop μ-loop
-same-length-8 c = search needs
-
-same-length-9 : tie.Need-same-length-9 Inv-loop μ-loop
-same-length-9 c = search needs
-
-same-length-10 : tie.Need-same-length-10 Inv-loop μ-loop
-same-length-10 c = search needs
-
-same-length-11 : tie.Need-same-length-11 Inv-loop μ-loop
-same-length-11 c = search needs
-
-same-length-12 : tie.Need-same-length-12 Inv-loop μ-loop
-same-length-12 c = search needs
-
-same-length-13 : tie.Need-same-length-13 Inv-loop μ-loop
-same-length-13 c = search needs
-
-same-length-14 : tie.Need-same-length-14 Inv-loop μ-loop
-same-length-14 c = search needs
 
 returns-2 : tie.Need-returns-2 Inv-loop μ-loop
 returns-2 c = search needs
@@ -108,18 +82,10 @@ answer-lines-spec =
     same-length
     same-length-2
     same-length-3
-    same-length-4
-    same-length-5
-    same-length-6
-    same-length-7
     returns
     loop-less
     loop-again
-    same-length-8
-    same-length-9
-    same-length-10
-    same-length-11
-    same-length-12
-    same-length-13
-    same-length-14
+    same-length-4
+    same-length-5
+    same-length-6
     returns-2)
