@@ -7,3 +7,4 @@ pub mod lines;
 pub mod marks;
 pub mod number;
 pub mod output;
+pub mod reader;
