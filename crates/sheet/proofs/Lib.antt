@@ -1,4 +1,5 @@
 pub mod Parted
+pub mod Walks
 pub mod Reading
 pub mod Digits
 pub mod Jobs
