@@ -16,7 +16,7 @@ use prog.Wp.{Heap}
 use ghost.Atoms.{Atoms, sem}
 use contract.Lifetimes.{Lfts}
 use contract.Monad.{Fun}
-use types.Kit.{Given, Item, ‵, raw, _⊛_, given, mean, _$_, _∵_, !, qed, by, move, use1, split, join, learn, frame, done}
+use types.Kit.{Given, Item, ‵, raw, _⊛_, given, mean, _$_, _∵_, !, qed, by, move, use1, split, join, fsplit, learn, frame, drop, done}
 use denote.RattleType.{RattleType, owns}
 use denote.Laws.{Is, Ises, Spells, Tellss}
 use denote.Plain.{uint-vals, uint-tells, uint-makes}
@@ -84,9 +84,15 @@ module _ (κ : Lft) where
         qed W (‵ (Whole d) ∷ []) ∵ use1 W (given (T′.lowered d ∷ [] ≡ T′.lowered d ∷ []) (‵ (Parts d))) (own-open 𝓤 H A W D L (d .sheet, (d .at, tt)) (T′.lowered d)) $ learn ! (λ _. done !)
 
     -- the struct gives its parts, and stays whole
-    pub apart : (d : Reader) → ent 𝓤 (sem 𝓤 H A (Whole d)) (mean 𝓤 H A (‵ (Parts d) ⊛ ‵ (Whole d)))
+    apart : (d : Reader) → ent 𝓤 (sem 𝓤 H A (Whole d)) (mean 𝓤 H A (‵ (Parts d) ⊛ ‵ (Whole d)))
     apart d =
         qed W (‵ (Whole d) ∷ []) ∵ use1 W (‵ (Whole d) ⊛ ‵ (Whole d)) (copied d) $ split ! $ use1 W (‵ (Parts d)) (opened d) $ done !
+
+    -- what a function with a reader has at entry gives what one with a sheet and a place has, and the struct stays
+    pub parted : (q : Share) (d : Reader) → ent 𝓤 (mean 𝓤 H A (token 𝓤 q ⊛ ‵ (owns (ReaderT (κ, tt) ∷ []) (d, tt) (T′.lowered d ∷ [], tt)))) (mean 𝓤 H A ((token 𝓤 q ⊛ ‵ (Parts d)) ⊛ ‵ (Whole d)))
+    parted q d =
+        qed W (token 𝓤 q ∷ ‵ (owns (ReaderT (κ, tt) ∷ []) (d, tt) (T′.lowered d ∷ [], tt)) ∷ []) ∵ move ! (1 ∷ []) $ fsplit ! $ move ! (1 ∷ []) $ drop ! $
+        use1 W (‵ (Parts d) ⊛ ‵ (Whole d)) (apart d) $ split ! $ move ! (2 ∷ 0 ∷ []) $ join ! $ done !
 
     -- the parts make the struct, and stay
     pub made : (d : Reader) → ent 𝓤 (sem 𝓤 H A (Parts d)) (mean 𝓤 H A (‵ (Parts d) ⊛ ‵ (Whole d)))

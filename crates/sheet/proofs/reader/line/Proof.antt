@@ -15,11 +15,10 @@ use prog.Wp.{Heap, Calls, Loops, WpFn}
 use ghost.Atoms.{Atoms}
 use contract.Monad.{Fun}
 use contract.Running.{givenOf, tables}
-use types.Kit.{Given, ‵, raw, _⊛_, ⋆, _$_, _∵_, !, qed, by, move, use1, use2, split, fsplit, fjoin, suffices, frame, drop, done}
+use types.Kit.{Given, ‵, raw, _⊛_, ⋆, _$_, _∵_, !, qed, by, move, use1, split, fjoin, suffices, frame, done}
 use types.Part.{whole, sub, look-in}
 use types.Run.{look, init, forget, stop, fld, from, load, of-opd, and-then, no-more, assigns, land, returns, enter, alloc1, alloc0, params1, pass1, pass0, free1, free0}
 use sound.WpLaws.{FmC}
-use denote.RattleType.{owns}
 use denote.Builtin.{u8}
 use denote.Ref.{RefT, now}
 use denote.Slice.{ShrSlice, shr-slice-lawful}
@@ -34,7 +33,7 @@ use denote.Exit.{yes}
 use Rattle.sheet.specs.Marks.{lineOf}
 use Rattle.sheet.specs.declared.reader.Reader.{Reader}
 use Rattle.sheet.proofs.Walks.{answers, closes}
-use Rattle.sheet.proofs.Reading.{values, ReaderT, D, L, Whole, Parts, token, apart}
+use Rattle.sheet.proofs.Reading.{values, ReaderT, D, L, Whole, Parts, token, parted}
 use Rattle.sheet.proofs.reader.Reader.Laws as T′
 use Rattle.sheet.proofs.lines.line_at as lineat
 use Rattle.sheet.proofs.lines.line_at.Symbol as lineat-def
@@ -59,12 +58,6 @@ module _ {M : Type 1} (𝓤 : URA M) (H : Heap 𝓤) (A : Atoms 𝓤) (W : Given
     abbrev to : LineAt .Ghost
     to = (((κ, tt), (q, tt), tt, (d .sheet, (d .at, tt)), values d), tt)
 
-    asks : ent 𝓤 (onEntry 𝓤 H A line.signature (κ, tt) (q, tt) (d, tt) (T′.lowered d ∷ [], tt)) (⋆ 𝓤 H A (raw (LineAt .pre to) ∷ ‵ (Whole κ d) ∷ []))
-    asks =
-        qed W (token κ 𝓤 q ∷ ‵ (owns (ReaderT (κ, tt) ∷ []) (d, tt) (T′.lowered d ∷ [], tt)) ∷ []) ∵ move ! (1 ∷ []) $ fsplit ! $ move ! (1 ∷ []) $ drop ! $
-        use1 W (‵ (Parts κ d) ⊛ ‵ (Whole κ d)) (apart κ 𝓤 H A W d) $ split ! $ move ! (2 ∷ 0 ∷ []) $
-        use2 W (raw (LineAt .pre to)) (qed W (token κ 𝓤 q ∷ ‵ (Parts κ d) ∷ []) ∵ says ! within $ frame ! $ done !) $ done !
-
     exits : (r : RefT (List ℕ)) (u : Val) → now r ≡ lineOf (now (d .sheet)) (d .at) → ent 𝓤 (⋆ 𝓤 H A (‵ (ShrSlice (named 0) κ u8 .own r (u ∷ [])) ∷ token κ 𝓤 q ∷ ‵ (Whole κ d) ∷ [])) (Post u)
     exits r u e =
         qed W (‵ (ShrSlice (named 0) κ u8 .own r (u ∷ [])) ∷ token κ 𝓤 q ∷ ‵ (Whole κ d) ∷ []) ∵
@@ -78,7 +71,7 @@ module _ {M : Type 1} (𝓤 : URA M) (H : Heap 𝓤) (A : Atoms 𝓤) (W : Given
         alloc1 ! (λ l₀. alloc1 ! (λ l₁. alloc1 ! (λ l₂. alloc1 ! (λ l₃. alloc0 ! $ params1 ! $ pass1 ! (init ! 4 refl wt) $ pass0 ! $
         assigns ! (of-opd ! (load ! (from ! (fld ! refl (stop !))) (look-in ! 4 (sub ! 0 refl (whole !))))) (from ! (stop !)) (init ! 2 refl (tt, wt .1 .0)) $
         assigns ! (of-opd ! (load ! (from ! (fld ! refl (stop !))) (look-in ! 4 (sub ! 1 refl (whole !))))) (from ! (stop !)) (init ! 0 refl (tt, wt .1 .1 .0)) $
-        move ! (8 ∷ []) $ use1 W (raw (LineAt .pre to) ⊛ ‵ (Whole κ d)) asks $ split ! $
+        move ! (8 ∷ []) $ use1 W ((token κ 𝓤 q ⊛ ‵ (Parts κ d)) ⊛ ‵ (Whole κ d)) (parted κ 𝓤 H A W q d) $ split ! $ use1 W (raw (LineAt .pre to)) (qed W ((token κ 𝓤 q ⊛ ‵ (Parts κ d)) ∷ []) ∵ says ! within $ done !) $
         answers ! fm lineat.ended (lineat.clauses 𝓤 H A mem run) known to (λ r. now r ≡ lineOf (now (d .sheet)) (d .at)) (λ r ws. id⊢ 𝓤 _)
         (and-then ! (load ! (from ! (stop !)) (look ! 4 refl)) (and-then ! (load ! (from ! (stop !)) (look ! 2 refl)) (no-more !))) (λ u r e is.
         -- [the result; the token; what the struct owns; _3; …; _2; …; _1; …; room for _0; …]

@@ -15,11 +15,10 @@ use prog.Wp.{Heap, Calls, Loops, WpFn}
 use ghost.Atoms.{Atoms}
 use contract.Monad.{Fun}
 use contract.Running.{givenOf, tables}
-use types.Kit.{Given, ‵, raw, _⊛_, ⋆, _$_, _∵_, !, qed, by, move, use1, use2, split, join, rewrite, fsplit, fjoin, suffices, frame, drop, done}
+use types.Kit.{Given, ‵, raw, _⊛_, ⋆, _$_, _∵_, !, qed, by, move, use1, split, rewrite, fjoin, suffices, frame, drop, done}
 use types.Part.{agg, whole, sub, look-in}
 use types.Run.{look, init, forget, stop, fld, from, load, of-opd, and-then, no-more, assigns, land, returns, enter, alloc1, alloc0, params1, pass1, pass0, free1, free0}
 use sound.WpLaws.{FmC}
-use denote.RattleType.{owns}
 use denote.Plain.{uint-lawful}
 use denote.Ref.{now}
 use denote.Steps.{only, nothing}
@@ -33,7 +32,7 @@ use denote.Exit.{yes}
 use Rattle.sheet.specs.Marks.{nextOf}
 use Rattle.sheet.specs.declared.reader.Reader.{Reader}
 use Rattle.sheet.proofs.Walks.{answers, closes}
-use Rattle.sheet.proofs.Reading.{values, ReaderT, D, L, Whole, Parts, token, apart, moved}
+use Rattle.sheet.proofs.Reading.{values, ReaderT, D, L, Whole, Parts, token, parted, moved}
 use Rattle.sheet.proofs.reader.Reader.Laws as T′
 use Rattle.sheet.proofs.lines.next_at as nextat
 use Rattle.sheet.proofs.lines.next_at.Symbol as nextat-def
@@ -58,12 +57,6 @@ module _ {M : Type 1} (𝓤 : URA M) (H : Heap 𝓤) (A : Atoms 𝓤) (W : Given
     abbrev to : NextAt .Ghost
     to = (((κ, tt), (q, tt), tt, (d .sheet, (d .at, tt)), values d), tt)
 
-    asks : ent 𝓤 (onEntry 𝓤 H A f.signature (κ, tt) (q, tt) (d, tt) (T′.lowered d ∷ [], tt)) (⋆ 𝓤 H A (raw (NextAt .pre to) ∷ ‵ (Whole κ d) ∷ []))
-    asks =
-        qed W (token κ 𝓤 q ∷ ‵ (owns (ReaderT (κ, tt) ∷ []) (d, tt) (T′.lowered d ∷ [], tt)) ∷ []) ∵ move ! (1 ∷ []) $ fsplit ! $ move ! (1 ∷ []) $ drop ! $
-        use1 W (‵ (Parts κ d) ⊛ ‵ (Whole κ d)) (apart κ 𝓤 H A W d) $ split ! $ move ! (2 ∷ 0 ∷ []) $
-        use2 W (raw (NextAt .pre to)) (qed W (token κ 𝓤 q ∷ ‵ (Parts κ d) ∷ []) ∵ join ! $ frame ! $ done !) $ done !
-
     exits : (at : ℕ) → at ≡ nextOf (now (d .sheet)) (d .at) → at < 2 ^ 64 → ent 𝓤 (⋆ 𝓤 H A (token κ 𝓤 q ∷ ‵ (Whole κ d) ∷ [])) (Post (T′.lowered (record { sheet = d .sheet; at = at })))
     exits at e fits =
         let behind : Reader = record { sheet = d .sheet; at = at } in
@@ -78,7 +71,7 @@ module _ {M : Type 1} (𝓤 : URA M) (H : Heap 𝓤) (A : Atoms 𝓤) (W : Given
         alloc1 ! (λ l₀. alloc1 ! (λ l₁. alloc1 ! (λ l₂. alloc1 ! (λ l₃. alloc1 ! (λ l₄. alloc1 ! (λ l₅. alloc0 ! $ params1 ! $ pass1 ! (init ! 8 refl wt) $ pass0 ! $
         assigns ! (of-opd ! (load ! (from ! (fld ! refl (stop !))) (look-in ! 8 (sub ! 0 refl (whole !))))) (from ! (stop !)) (init ! 4 refl (tt, wt .1 .0)) $
         assigns ! (of-opd ! (load ! (from ! (fld ! refl (stop !))) (look-in ! 8 (sub ! 1 refl (whole !))))) (from ! (stop !)) (init ! 2 refl (tt, wt .1 .1 .0)) $
-        move ! (12 ∷ []) $ use1 W (raw (NextAt .pre to) ⊛ ‵ (Whole κ d)) asks $ split ! $
+        move ! (12 ∷ []) $ use1 W ((token κ 𝓤 q ⊛ ‵ (Parts κ d)) ⊛ ‵ (Whole κ d)) (parted κ 𝓤 H A W q d) $ split ! $ use1 W (raw (NextAt .pre to)) (qed W ((token κ 𝓤 q ⊛ ‵ (Parts κ d)) ∷ []) ∵ frame ! $ done !) $
         answers ! fm nextat.ended (nextat.clauses 𝓤 H A mem run) known to (λ r. r ≡ nextOf (now (d .sheet)) (d .at)) (λ r ws. id⊢ 𝓤 _)
         (and-then ! (load ! (from ! (stop !)) (look ! 6 refl)) (and-then ! (load ! (from ! (stop !)) (look ! 4 refl)) (no-more !))) (λ u at e is.
         -- [the place; the token; what the struct owns; _5; …; _4; …; _3; …; room for _2; …; _1; …; room for _0; …]
