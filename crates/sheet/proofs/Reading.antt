@@ -76,6 +76,10 @@ module _ (κ : Lft) where
   token 𝓤 q = ‵ (flft κ q) ⊛ ‵ ftrue
 
   module _ {M : Type 1} (𝓤 : URA M) (H : Heap 𝓤) (A : Atoms 𝓤) (W : Given 𝓤 H A) where
+    -- what a function has at entry whose parameters are a sheet and a place
+    abbrev pub Entered : Share → Reader → SProp 𝓤
+    Entered q d = mean 𝓤 H A (token 𝓤 q ⊛ ‵ (Parts d))
+
     copied : (d : Reader) → ent 𝓤 (sem 𝓤 H A (Whole d)) (mean 𝓤 H A (‵ (Whole d) ⊛ ‵ (Whole d)))
     copied d = LL.copy D (T′.the-copy (namedLft 1 0 tt (κ, tt))) 𝓤 H A W .twice d (T′.lowered d ∷ [])
 
@@ -119,6 +123,10 @@ module _ (κ : Lft) where
       pub place : Fits w64 (d .at)
       place = subst WT spelled (typed .1) .1 .0
 
+-- what is known of a reader that was made of the parts of d
+abbrev pub Made : Reader → Reader → Type 0
+Made d r = (r .sheet ≡ d .sheet) × (r .at ≡ d .at)
+
 -- a reader made in a local, for a function whose parameters are a sheet and a place
 module _ {M : Type 1} (𝓤 : URA M) (H : Heap 𝓤) (A : Atoms 𝓤) (W : Given 𝓤 H A) (mem : Memory → SProp 𝓤) (run : Routine → Fun 𝓤) where
   abbrev pub ReaderAt : Contract 𝓤
@@ -128,7 +136,7 @@ module _ {M : Type 1} (𝓤 : URA M) (H : Heap 𝓤) (A : Atoms 𝓤) (W : Given
     abbrev pub to-reader : ReaderAt .Ghost
     to-reader = (((κ, tt), (q, tt), tt, (d .sheet, (d .at, tt)), values d), tt)
 
-    pub asks-reader : ent 𝓤 (mean 𝓤 H A (token κ 𝓤 q ⊛ ‵ (Parts κ d))) (mean 𝓤 H A (raw (ReaderAt .pre to-reader) ⊛ ‵ (Parts κ d)))
+    pub asks-reader : ent 𝓤 (Entered κ 𝓤 H A W q d) (mean 𝓤 H A (raw (ReaderAt .pre to-reader) ⊛ ‵ (Parts κ d)))
     asks-reader =
         qed W (token κ 𝓤 q ∷ ‵ (Parts κ d) ∷ []) ∵ move ! (1 ∷ []) $ use1 W (‵ (Parts κ d) ⊛ ‵ (Parts κ d)) (twice κ 𝓤 H A W d) $ split ! $ move ! (2 ∷ 0 ∷ []) $ join ! $
         use1 W (raw (ReaderAt .pre to-reader)) (qed W ((token κ 𝓤 q ⊛ ‵ (Parts κ d)) ∷ []) ∵ frame ! $ done !) $ done !

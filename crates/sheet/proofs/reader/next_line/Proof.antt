@@ -14,7 +14,7 @@ use prog.Routine.{Routine}
 use prog.Wp.{Heap, Calls, Loops, WpFn}
 use ghost.Atoms.{Atoms}
 use contract.Monad.{Fun}
-use contract.Running.{givenOf, tables}
+use contract.Running.{givenOf}
 use types.Kit.{Given, ‵, raw, _⊛_, ⋆, _$_, _∵_, !, qed, by, move, use1, split, rewrite, fjoin, suffices, frame, drop, done}
 use types.Part.{agg, whole, sub, look-in}
 use types.Run.{look, init, forget, stop, fld, from, load, of-opd, and-then, no-more, assigns, land, returns, enter, alloc1, alloc0, params1, pass1, pass0, free1, free0}
@@ -27,7 +27,7 @@ use denote.Triple.Statement.{Contract, Triple}
 use denote.Triple.Entry.{onEntry}
 use denote.Triple.Spec.{tripleOf}
 use denote.Triple.Table.{cited}
-use denote.Triple.Walked.{says, Stays, stay-none, walkOf, goes-none, ends-at, walked}
+use denote.Triple.Walked.{says, Stays, stay-none, walkOf, goes-none, ends-at}
 use denote.Exit.{yes}
 use Rattle.sheet.specs.Marks.{nextOf}
 use Rattle.sheet.specs.declared.reader.Reader.{Reader}
@@ -84,12 +84,7 @@ module _ {M : Type 1} (𝓤 : URA M) (H : Heap 𝓤) (A : Atoms 𝓤) (W : Given
 pub next-line-spec : {M : Type 1} → stated.statement M
 unfolding code.routine
 next-line-spec 𝓤 H 𝓜 𝓖 𝓡 =
-    let A = 𝓖 .A in
     let W = givenOf 𝓤 H 𝓜 𝓖 in
-    let C = tables 𝓤 H 𝓜 𝓡 code.env .C in
-    let Λ = tables 𝓤 H 𝓜 𝓡 code.env .Λ in
-    let c = f.clauses 𝓤 H A (𝓜 .mem) (𝓡 .run) in
-    let met = cited 𝓤 H (NextAt 𝓤 H A W (𝓜 .mem) (𝓡 .run)) 𝓜 𝓡 code.env nextat-def.name nextat-def.routine code.calls-sheet·lines·next-at (nextat-thm.met 𝓤 H 𝓜 𝓖 𝓡) in
-    closes 𝓤 H 𝓜 𝓖 𝓡 code.env #next-line code.function (code.unfolded 𝓤 H 𝓜 𝓡) f.ended stayed (goes-none 𝓤 H A W 1 ReaderT yes (λ κs x f. refl), tt) c (λ fm.
-    walked 𝓤 H A f.ended stayed c (WpFn 𝓤 H C Λ code.function) (λ κs. (LL.vals (D (κs .0)) (L (κs .0)), tt)) (λ κs. (LL.tells (D (κs .0)) (L (κs .0)), tt)) (λ κs qs bounds a g are. via 𝓤 _ (fst∗ 𝓤 _ (emp 𝓤))
-    (walk 𝓤 H A W (𝓜 .mem) (𝓡 .run) (κs .0) (qs .0) (a .0) C Λ fm met (LL.lawful (D (κs .0)) (L (κs .0)) 𝓤 H A W .typed (a .0) _ (are .0) .0))))
+    let met = cited 𝓤 H (NextAt 𝓤 H (𝓖 .A) W (𝓜 .mem) (𝓡 .run)) 𝓜 𝓡 code.env nextat-def.name nextat-def.routine code.calls-sheet·lines·next-at (nextat-thm.met 𝓤 H 𝓜 𝓖 𝓡) in
+    closes 𝓤 H 𝓜 𝓖 𝓡 code.env #next-line code.function (code.unfolded 𝓤 H 𝓜 𝓡) f.ended stayed (goes-none 𝓤 H (𝓖 .A) W 1 ReaderT yes (λ κs x f. refl), tt) (f.clauses 𝓤 H (𝓖 .A) (𝓜 .mem) (𝓡 .run)) (λ κs. (LL.vals (D (κs .0)) (L (κs .0)), tt)) (λ κs. (LL.tells (D (κs .0)) (L (κs .0)), tt))
+    (λ fm x g are. via 𝓤 _ (fst∗ 𝓤 _ (emp 𝓤)) (walk 𝓤 H (𝓖 .A) W (𝓜 .mem) (𝓡 .run) (x .0 .0) (x .1 .0) (x .3 .0) _ _ fm met (LL.lawful (D (x .0 .0)) (L (x .0 .0)) 𝓤 H (𝓖 .A) W .typed (x .3 .0) _ (are .0) .0)))
