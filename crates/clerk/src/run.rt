@@ -5,8 +5,8 @@ ghost use lib.ListN.{length};
 ghost use Rattle.clerk.specs.Running.{lent, Passes, longestLine, RanLines};
 use crate::line::run_line;
 use desk::words::are_words;
-use sheet::lines::line_at;
-use sheet::lines::next_at;
+use sheet::reader::line_here;
+use sheet::reader::next_here;
 
 // How far the sheet has been run: the place where the next line starts, its number, and how many bytes stand in the buffer.
 pub struct Run {
@@ -55,10 +55,10 @@ pub fn run_lines(
         if out.len() < run.filled + need {
             return run;
         }
-        let line = line_at(sheet, run.at);
+        let line = line_here(sheet, run.at);
         let filled = run_line(line, run.number, table, answers, out, run.filled);
         run = Run {
-            at: next_at(sheet, run.at),
+            at: next_here(sheet, run.at),
             number: run.number + 1,
             filled,
         };

@@ -1,4 +1,6 @@
 pub mod Parted
+pub mod Walks
+pub mod Reading
 pub mod Digits
 pub mod Jobs
 pub mod Laid

@@ -5,7 +5,6 @@ ghost use lib.ListN.{drop, getD};
 ghost use Rattle.sheet.specs.Bytes.{fieldsOf};
 ghost use Rattle.sheet.specs.Number.{readNumber};
 ghost use Rattle.sheet.specs.Job.{enrolJob, withdrawJob, queryJob, jobOf};
-ghost use Rattle.sheet.specs.Output.{letterOf};
 use crate::fields::field;
 use crate::fields::field_count;
 use crate::number::Read;
@@ -104,18 +103,5 @@ pub fn job_of(line: &[u8]) -> Job
         b'W' => withdraw_job(line),
         b'Q' => query_job(line),
         _ => Job::Misshapen,
-    }
-}
-
-// The letter of a line in the output: ? for a misshapen one.
-pub fn letter_of(job: Job) -> u8
-    ensures { λ r. ⌜ r ≡ letterOf job ⌝ }
-{
-    match job {
-        Job::Enrol(_, _, _) => b'E',
-        Job::Withdraw(_) => b'W',
-        Job::Query(_, _, _) => b'Q',
-        Job::MissingK => b'Q',
-        Job::Misshapen => b'?',
     }
 }

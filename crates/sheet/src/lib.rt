@@ -1,4 +1,4 @@
-// The job sheet: lines, fields, numbers, the line handlers, the bytes of an output line.
+// The job sheet: its reader, lines, fields, numbers, the line handlers, the bytes of an output line.
 // It promises what each line asks for, and every byte of an output line, by the definitions in specs/.
 // It stands on order and table (definitions alone).
 pub mod fields;
@@ -7,3 +7,4 @@ pub mod lines;
 pub mod marks;
 pub mod number;
 pub mod output;
+pub mod reader;

@@ -48,8 +48,8 @@ same-length-3 c = search needs
 returns : tie.Need-returns Inv-loop μ-loop
 returns c = going-full _ _ _ _ _ (c .before .before .before .before .loop .inv .0) (search needs) (search needs)
 
-line-at-requires : tie.Need-line-at-requires Inv-loop μ-loop
-line-at-requires c κs = search needs
+line-here-requires : tie.Need-line-here-requires Inv-loop μ-loop
+line-here-requires c κs = search needs
 
 run-line-requires : tie.Need-run-line-requires Inv-loop μ-loop
 run-line-requires c κs =
@@ -57,8 +57,8 @@ run-line-requires c κs =
     let g = l .loop .inv .0 in
     (record { long = g .passing .long; rules = g .passing .rules }, omega (arith, g .places, l .loop .inv .1))
 
-next-at-requires : tie.Need-next-at-requires Inv-loop μ-loop
-next-at-requires c κs = search needs
+next-here-requires : tie.Need-next-here-requires Inv-loop μ-loop
+next-here-requires c κs = search needs
 
 add-t24 : tie.Need-add-t24 Inv-loop μ-loop
 add-t24 c =
@@ -70,7 +70,7 @@ loop-less : tie.Need-loop-less Inv-loop μ-loop
 loop-less c =
     let t = c .before .before .before .before .before .before .before .before .before .before .before .before in
     let s = c .before .before .before .before .before .before .before .before .before .before .before .before .before .before .before .before .before .before .before .before .before .before .before in
-    omega (arith, t, next-beyond FEED (s .args .sheet .now) (t .before .before .before .before .loop .run .at) (omega (arith, t)), c .before .next-at .ensures)
+    omega (arith, t, next-beyond FEED (s .args .sheet .now) (t .before .before .before .before .loop .run .at) (omega (arith, t)), c .before .next-here .ensures)
 
 loop-again : tie.Need-loop-again Inv-loop μ-loop
 loop-again c =
@@ -86,8 +86,8 @@ loop-again c =
     let now = lent (o .table) (o .answers) in
     let after = lent (e .0) (e .1 .0) in
     let left = e .1 .1 .0 in
-    let ran = subst (λ b. RanOne (o .run .number) b now after (o .out) (o .run .filled) left (y .result)) (c .before .before .before .before .before .before .before .before .before .before .before .line-at .ensures) (y .ensures) in (
-      subst (λ n. Going sheet (a .at) (a .number) before (a .out .now) after left (record { at = n; number = o .run .number + 1; filled = y .result })) (sym (c .before .next-at .ensures))
+    let ran = subst (λ b. RanOne (o .run .number) b now after (o .out) (o .run .filled) left (y .result)) (c .before .before .before .before .before .before .before .before .before .before .before .line-here .ensures) (y .ensures) in (
+      subst (λ n. Going sheet (a .at) (a .number) before (a .out .now) after left (record { at = n; number = o .run .number + 1; filled = y .result })) (sym (c .before .next-here .ensures))
           (going-more sheet (a .at) (a .number) before (a .out .now) (o .inv .0) (omega (arith, t)) (omega (arith, t, o .inv .1)) ran (k .1 .0)),
       k .1 .1 .0 ∙ o .inv .1,
     )
@@ -118,9 +118,9 @@ run-lines-spec =
     same-length-2
     same-length-3
     returns
-    line-at-requires
+    line-here-requires
     run-line-requires
-    next-at-requires
+    next-here-requires
     add-t24
     loop-less
     loop-again

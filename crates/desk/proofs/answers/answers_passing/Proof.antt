@@ -225,4 +225,4 @@ answers-passing-spec 𝓤 H 𝓜 𝓖 𝓡 =
     (tables 𝓤 H 𝓜 𝓡 code.env .C) (tables 𝓤 H 𝓜 𝓡 code.env .Λ) #desk·answers·answers-passing code.function (code.unfolded 𝓤 H 𝓜 𝓡)
     (answers-meets 𝓤 H (𝓖 .A) (givenOf 𝓤 H 𝓜 𝓖) (𝓜 .mem) (𝓡 .run) (tablesOf 𝓤 H 𝓜 (tables 𝓤 H 𝓜 𝓡 code.env))
     (cited 𝓤 H (Blank 𝓤 H (𝓖 .A) (𝓜 .mem) (𝓡 .run)) 𝓜 𝓡 code.env #desk·answers·blank-list blank-list-def.routine code.calls-desk·answers·blank-list (blank-list-thm.met 𝓤 H 𝓜 𝓖 𝓡))
-    (cited 𝓤 H (Passing 𝓤 H (𝓖 .A) (𝓜 .mem) (𝓡 .run)) 𝓜 𝓡 code.env #desk·query·query-passing query-passing-def.routine code.calls-desk·records·query-passing (query-passing-thm.met 𝓤 H 𝓜 𝓖 𝓡)))
+    (cited 𝓤 H (Passing 𝓤 H (𝓖 .A) (𝓜 .mem) (𝓡 .run)) 𝓜 𝓡 code.env #desk·query·query-passing query-passing-def.routine code.calls-desk·query·query-passing (query-passing-thm.met 𝓤 H 𝓜 𝓖 𝓡)))
