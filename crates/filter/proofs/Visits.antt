@@ -7,22 +7,23 @@ use mathlib.Core.Bool.{Bool, true, false, cond}
 use mathlib.Core.List.{[], _∷_, _++_, map, List·Memᴰ·head, List·Memᴰ·tail, Memᴰ·map}
 use lib.Dec.{leb}
 use lib.IntN.{pos}
-use lib.ListN.{length, set, length-append, length-map}
+use lib.ListN.{length, getD, set, length-append, length-map}
 use Rattle.grid.specs.Word.{wordOf}
 use Rattle.grid.specs.declared.place.Place.{Place}
 use Rattle.grid.specs.Place.{PlaceOnGrid, dist²}
 use Rattle.grid.specs.Nearer.{nearerTo, cornersNearer}
 use Rattle.order.specs.Lists.{count, Mem}
 use Rattle.order.specs.Order.{upFrom}
-use Rattle.order.proofs.Lists.{mem-all}
-use Rattle.order.proofs.Order.{up-length}
+use Rattle.order.proofs.Lists.{mem-all, map-at}
+use Rattle.order.proofs.Order.{up-length, up-at}
 use Rattle.table.specs.declared.node.Entry.{Entry}
+use Rattle.table.specs.Page.{blankEntry}
 use Rattle.table.specs.Stations.{isPoint}
 use Rattle.audit.proofs.Reading.{point}
 use Rattle.filter.specs.declared.seen.Seen.{Seen}
 use Rattle.filter.specs.Walk.{Found, spotIn, pointHidden, boxHidden, withCandidate, visited, entered}
 use Rattle.filter.specs.Rows.{Rows, rows, placeIn, entryIn, listed, laidIn, foundIn, Room, Kept, Noted, Ready}
-use Rattle.filter.proofs.Rows.{count-map, row-add, rows-ext}
+use Rattle.filter.proofs.Rows.{count-map, row-add, row-at, rows-ext}
 
 up-mem : (a n i : ℕ) → a ≤ i → i < a + n → Mem i (upFrom a n)
 up-mem a zero i l u = absurd (omega arith)
@@ -40,11 +41,22 @@ pub listed-count : (r : Rows) (m : ℕ) (P : Place → Bool) → count (λ c. P 
 unfolding listed
 listed-count r m P = count-map (λ c. P (spotIn c)) (entryIn r) (upFrom 0 m)
 
+listed-at : (r : Rows) (m i : ℕ) → i < m → getD (listed r m) i blankEntry ≡ entryIn r i
+unfolding listed
+listed-at r m i h = map-at (entryIn r) (upFrom 0 m) 0 blankEntry i (omega (arith, up-length 0 m)) ∙ ap (entryIn r) (up-at 0 m i h ∙ omega arith)
+
 pub kept-grid : {q : Place} {r : Rows} {m : ℕ} → Kept q r m → (i : ℕ) → i < m → PlaceOnGrid (placeIn (r .xs) (r .ys) i)
 unfolding listed
 kept-grid {q} {r} {m} k i h =
     let p = point (entryIn r i) (mem-all (λ e. isPoint e ≡ true) (map (entryIn r) (upFrom 0 m)) (k .points) (Memᴰ·map (entryIn r) (up-mem 0 m i (omega arith) (omega arith)))) in
     record { x = p .x .grid; y = p .y .grid }
+
+pub kept-square : {q : Place} {r : Rows} {m : ℕ} → Kept q r m → (i : ℕ) → i < m → getD (r .squares) i 0 ≡ dist² q (placeIn (r .xs) (r .ys) i)
+unfolding laidIn
+kept-square {q} {r} {m} k i h =
+    ap (λ (t : Rows). getD (t .squares) i 0) (sym (k .same))
+    ∙ row-at (λ (e : Entry). dist² q (spotIn e)) (listed r m) (r .squares) blankEntry 0 i (omega (arith, listed-length r m))
+    ∙ ap (λ (e : Entry). dist² q (spotIn e)) (listed-at r m i h)
 
 -- nothing new
 pub noted-same : {q : Place} {r : Rows} {s : Seen} → Kept q r (s .candidates) → Noted q (foundIn r s) r r s

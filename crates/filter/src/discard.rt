@@ -2,8 +2,8 @@
 ghost use mathlib.Core.Path.{_≡_};
 ghost use Prim.Native.Nat.{ℕ, _≤_, _<_};
 ghost use lib.Dec.{leb};
-ghost use lib.ListN.{length};
-ghost use Rattle.grid.specs.Place.{PlaceOnGrid, RectOnGrid};
+ghost use lib.ListN.{length, getD};
+ghost use Rattle.grid.specs.Place.{PlaceOnGrid, RectOnGrid, dist²};
 ghost use Rattle.grid.specs.Nearer.{nearerTo, cornersNearer};
 ghost use Rattle.order.specs.Lists.{one as oneOf, count};
 ghost use Rattle.order.specs.Order.{upFrom};
@@ -49,9 +49,18 @@ pub fn hides_point(xs: &[i32], ys: &[i32], m: usize, p: Place, q: Place, k: usiz
 }
 
 // Whether for at least k of the first m candidates all four corners of the box are nearer to that candidate than to q; counted the same way.
-pub fn hides_box(xs: &[i32], ys: &[i32], m: usize, r: Rect, q: Place, k: usize) -> bool
-    requires { ⌜ (m ≤ length (now xs)) × (m ≤ length (now ys)) ⌝ }
+pub fn hides_box(
+    xs: &[i32],
+    ys: &[i32],
+    squares: &[u64],
+    m: usize,
+    r: Rect,
+    q: Place,
+    k: usize,
+) -> bool
+    requires { ⌜ (m ≤ length (now xs)) × (m ≤ length (now ys)) × (m ≤ length (now squares)) ⌝ }
     requires { ⌜ RectOnGrid r × PlaceOnGrid q × ((i : ℕ) → i < m → PlaceOnGrid (placeIn (now xs) (now ys) i)) ⌝ }
+    requires { ⌜ ((i : ℕ) → i < m → getD (now squares) i 0 ≡ dist² q (placeIn (now xs) (now ys) i)) ⌝ }
     ensures { λ n. ⌜ n ≡ leb k (count (λ i. cornersNearer r (placeIn (now (xs .entry)) (now (ys .entry)) i) q) (upFrom 0 m)) ⌝ }
 {
     let ends = r.ends(q);
@@ -59,7 +68,7 @@ pub fn hides_box(xs: &[i32], ys: &[i32], m: usize, r: Rect, q: Place, k: usize) 
     let mut i = 0;
     while i < m {
         let c = place_at(xs, ys, i);
-        n += one(r.all_nearer(c, ends));
+        n += one(ends.all_nearer(c, q, squares[i]));
         i += 1;
     }
     k <= n

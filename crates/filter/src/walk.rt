@@ -82,7 +82,7 @@ pub fn walk(
         let at = row[i];
         let e = entry_at(table, slot, at);
         i += 1;
-        if hides_box(xs, ys, so_far.candidates, e.rect, q, k) {
+        if hides_box(xs, ys, squares, so_far.candidates, e.rect, q, k) {
             continue;
         }
         let child = e.reference;

@@ -1,13 +1,19 @@
 -- The laws of one axis: distances and their squares, spans that grow, what lies in a span, and the gap to it. Assumes nothing.
-use mathlib.Core.Path.{_≡_, ap, subst}
+use mathlib.Core.Path.{_≡_, refl, ap, _∙_, subst}
+use mathlib.Core.Bool.{true, false}
 use mathlib.Core.Logic.{_⊎_, inl, inr, ⊎-elim}
-use Prim.Native.Nat.{ℕ, _+_, _-_, _*_, _≤_}
-use native.Mathlib.Decide.{decLe}
+use Prim.Native.Nat.{ℕ, _+_, _-_, _*_, _≤_, _<_}
+use native.Mathlib.Decide.{decLe, decLt}
 use native.Mathlib.Nat.{mul-le-mul}
 use native.Mathlib.Omega.{arith}
+use borrow.Author.Tests.{lt-ltb, le-ltb}
+use lib.Dec.{ltb}
+use lib.IntN.{ℤ, pos, subℕ, _*ℤ_}
+use lib.Signed.{ltZ}
 use Rattle.grid.specs.declared.span.Span.{Span}
 use Rattle.grid.specs.declared.span.Ends.{Ends}
-use Rattle.grid.specs.Axis.{OnGrid, SpanOnGrid, EndsRaised, InSpan, SpanWithin, RAISE, apart, sq, spanGrown, spanLength, gap, endsOf, leadOf}
+use Rattle.grid.specs.Axis.{OnGrid, SpanOnGrid, InSpan, SpanWithin, apart, sq, spanGrown, spanLength, gap, endsOf, leadOf}
+use Rattle.grid.proofs.Signs.{Is, is-sub, is-times, lt-both}
 
 -- ---- distances
 
@@ -136,33 +142,66 @@ gap-square-least a i = mul-le-mul (gap-least a i) (gap-least a i)
 pub ends-ext : {s t : Ends} → s .low ≡ t .low → s .high ≡ t .high → s ≡ t
 ends-ext p q = λ i. record { low = p i; high = q i }
 
-pub ends-raised : {s : Span} {q : ℕ} → SpanOnGrid s → OnGrid q → EndsRaised (endsOf s q)
-ends-raised {s} {q} g h =
-    let l = sq-most q (s .low) h (g .low) in
-    let m = sq-most q (s .high) h (g .high) in
-    record { low = omega arith; lowMost = omega arith; high = omega arith; highMost = omega arith }
+-- how far c lies beyond q, times an end v
+abbrev product : ℕ → ℕ → ℕ → ℤ
+product c q v = subℕ c q *ℤ (pos 2 *ℤ subℕ v q)
 
-pub lead-most : (s : Span) (c : ℕ) {e : Ends} → EndsRaised e → leadOf s c e ≤ 2 * RAISE
+-- it is `gains` less `loses`
+abbrev gains : ℕ → ℕ → ℕ → ℕ
+gains c q v = c * (2 * v + 0 * q) + q * (2 * q + 0 * v)
+
+abbrev loses : ℕ → ℕ → ℕ → ℕ
+loses c q v = c * (2 * q + 0 * v) + q * (2 * v + 0 * q)
+
+is-end : (c q v : ℕ) → Is (product c q v) (gains c q v) (loses c q v)
+is-end c q v = is-times (subℕ c q) (pos 2 *ℤ subℕ v q) c q _ _ (is-sub c q) (is-times (pos 2) (subℕ v q) 2 0 v q refl (is-sub v q))
+
+lesser-end : (c q v w : ℕ) → ltZ (product c q v) (product c q w) ≡ ltb (gains c q v + loses c q w) (gains c q w + loses c q v)
+lesser-end c q v w =
+    lt-both (product c q v) (product c q w) (gains c q v) (loses c q v) (gains c q w) (loses c q w) (is-end c q v) (is-end c q w)
+
+-- and what c leads by there, with the square that it has to lead by
+at-end : (c q v : ℕ) → gains c q v + sq c v ≡ loses c q v + (sq q c + sq q v)
+at-end c q v = omega (arith, sq-law q v, sq-law c v, sq-law q c)
+
+-- the lead of c over q, `more` less `less`: at neither end does c lead by less, and at one of the two by no more
+pub record Lead (s : Span) (c q : ℕ) (z : ℤ) : Type 0 where
+  pub more : ℕ
+  pub less : ℕ
+  pub is : Is z more less
+  pub low : more + sq c (s .low) ≤ less + (sq q c + sq q (s .low))
+  pub high : more + sq c (s .high) ≤ less + (sq q c + sq q (s .high))
+  pub one : (less + (sq q c + sq q (s .low)) ≤ more + sq c (s .low)) ⊎ (less + (sq q c + sq q (s .high)) ≤ more + sq c (s .high))
+
+pub lead : (s : Span) (c q : ℕ) → Lead s c q (leadOf (endsOf s q) c q)
 unfolding leadOf
-lead-most s c h = omega (arith, h .lowMost)
-
--- the lead over q: at neither end is c nearer by less, and at one of the two by no more
-pub record Lead (s : Span) (c q n : ℕ) : Type 0 where
-  pub low : n + sq c (s .low) ≤ RAISE + sq q (s .low)
-  pub high : n + sq c (s .high) ≤ RAISE + sq q (s .high)
-  pub one : (RAISE + sq q (s .low) ≤ n + sq c (s .low)) ⊎ (RAISE + sq q (s .high) ≤ n + sq c (s .high))
-
-pub lead : {s : Span} {c : ℕ} (q : ℕ) → SpanOnGrid s → OnGrid c → Lead s c q (leadOf s c (endsOf s q))
-unfolding leadOf
-lead {s} {c} q g h =
-    let l = sq-most c (s .low) h (g .low) in
-    let m = sq-most c (s .high) h (g .high) in
-    record {
-      low = omega arith;
-      high = omega arith;
-      one =
-          ⊎-elim
-          (λ u. inl (omega arith))
-          (λ u. inr (omega arith))
-          (either ((RAISE + sq q (s .low)) - sq c (s .low)) ((RAISE + sq q (s .high)) - sq c (s .high)));
-    }
+lead s c q = go (decLt (gains c q (s .low) + loses c q (s .high)) (gains c q (s .high) + loses c q (s .low)))
+  where
+    go : Dec (gains c q (s .low) + loses c q (s .high) < gains c q (s .high) + loses c q (s .low)) → Lead s c q (leadOf (endsOf s q) c q)
+    go (yes u) =
+        let l = at-end c q (s .low) in
+        let h = at-end c q (s .high) in
+        let t : ltZ (product c q (s .low)) (product c q (s .high)) ≡ true = lesser-end c q (s .low) (s .high) ∙ lt-ltb _ _ u in
+        rw t
+        (record {
+          more = gains c q (s .low);
+          less = loses c q (s .low);
+          is = is-end c q (s .low);
+          low = omega arith;
+          high = omega arith;
+          one = inl (omega arith);
+        })
+    go (no u) =
+        let l = at-end c q (s .low) in
+        let h = at-end c q (s .high) in
+        let v : gains c q (s .high) + loses c q (s .low) ≤ gains c q (s .low) + loses c q (s .high) = omega arith in
+        let t : ltZ (product c q (s .low)) (product c q (s .high)) ≡ false = lesser-end c q (s .low) (s .high) ∙ le-ltb _ _ v in
+        rw t
+        (record {
+          more = gains c q (s .high);
+          less = loses c q (s .high);
+          is = is-end c q (s .high);
+          low = omega arith;
+          high = omega arith;
+          one = inr (omega arith);
+        })

@@ -1,15 +1,18 @@
 -- The laws of `nearer`, with the half-plane theorem. No other file of the repository, but the proof of `is_nearer`, looks inside `nearer`. Assumes nothing.
-use mathlib.Core.Path.{_≡_, refl, sym}
+use mathlib.Core.Path.{_≡_, refl, sym, _∙_}
 use mathlib.Core.Logic.{⊎-elim}
 use mathlib.Core.Bool.{Bool, true, false, _&&_}
-use Prim.Native.Nat.{ℕ, _+_, _≤_}
+use Prim.Native.Nat.{ℕ, _+_, _≤_, _<_}
 use native.Mathlib.Omega.{arith}
 use borrow.Author.Tests.{ltb-true, lt-ltb, le-ltb}
+use lib.IntN.{ℤ, pos, negsuc, _+ℤ_}
 use Rattle.grid.specs.declared.place.Place.{Place}
 use Rattle.grid.specs.declared.rect.Rect.{Rect}
-use Rattle.grid.specs.Place.{PlaceOnGrid, RectOnGrid, Inside, dist², rectEndsOf}
-use Rattle.grid.specs.Nearer.{nearer, nearerTo, cornerNearer, cornersNearer, allNearer}
+use Rattle.grid.specs.Place.{Inside, dist², rectEndsOf}
+use Rattle.grid.specs.Nearer.{nearer, nearerTo, cornerNearer, cornersNearer, led, allNearer}
+use Rattle.grid.specs.Axis.{endsOf, leadOf}
 use Rattle.grid.proofs.Axis.{worst, lead}
+use Rattle.grid.proofs.Signs.{Is, is-plus}
 
 -- ---- what holds of strictly nearer, and would hold of nearer or equal
 
@@ -45,6 +48,10 @@ far-less d e e′ h = far-shift d e d e′ (omega arith)
 pub near-self : (d : ℕ) → nearer d d ≡ false
 unfolding nearer
 near-self d = le-ltb d d (omega arith)
+
+pub far-below : (d e : ℕ) → e < d → nearer d e ≡ false
+unfolding nearer
+far-below d e h = le-ltb d e (omega arith)
 
 -- ---- the half-plane theorem
 
@@ -99,12 +106,34 @@ joined : (r : Rect) (c q : Place) → Corners r c q → cornersNearer r c q ≡ 
 unfolding cornersNearer
 joined r c q k = rw (k .ll, k .lh, k .hl, k .hh) refl
 
--- the sum of the leads is more than nothing: so is each corner's
-led : (r : Rect) (c q : Place) → RectOnGrid r → PlaceOnGrid c → allNearer r c (rectEndsOf r q) ≡ true → Corners r c q
-unfolding allNearer nearerTo dist²
-led r c q g h t =
-    let x = lead (q .x) (g .x) (h .x) in
-    let y = lead (q .y) (g .y) (h .y) in
+-- a lead that is `more` less `less`, against d
+led-is : (d : ℕ) (z : ℤ) (more less : ℕ) → Is z more less → led d z ≡ nearer (d + less) more
+unfolding led
+led-is d (pos n) more less h = same _ _ (near-shift _ _ _ _ (omega arith)) (near-shift _ _ _ _ (omega arith))
+led-is d (negsuc n) more less h = sym (far-below (d + less) more (omega arith))
+
+-- both leads together
+abbrev bothMore : (r : Rect) (c q : Place) → ℕ
+bothMore r c q = lead (r .x) (c .x) (q .x) .more + lead (r .y) (c .y) (q .y) .more
+
+abbrev bothLess : (r : Rect) (c q : Place) → ℕ
+bothLess r c q = lead (r .x) (c .x) (q .x) .less + lead (r .y) (c .y) (q .y) .less
+
+both-led : (r : Rect) (c q : Place) → allNearer (rectEndsOf r q) c q (dist² q c) ≡ nearer (dist² q c + bothLess r c q) (bothMore r c q)
+unfolding allNearer
+both-led r c q =
+    let zx = leadOf (endsOf (r .x) (q .x)) (c .x) (q .x) in
+    let zy = leadOf (endsOf (r .y) (q .y)) (c .y) (q .y) in
+    let x = lead (r .x) (c .x) (q .x) in
+    let y = lead (r .y) (c .y) (q .y) in
+    led-is (dist² q c) (zx +ℤ zy) _ _ (is-plus zx zy (x .more) (x .less) (y .more) (y .less) (x .is) (y .is))
+
+-- the leads together are more than the square: so is each corner's
+each-led : (r : Rect) (c q : Place) → nearer (dist² q c + bothLess r c q) (bothMore r c q) ≡ true → Corners r c q
+unfolding nearerTo dist²
+each-led r c q t =
+    let x = lead (r .x) (c .x) (q .x) in
+    let y = lead (r .y) (c .y) (q .y) in
     record {
       ll = near-shift _ _ _ _ (omega (arith, x .low, y .low)) t;
       lh = near-shift _ _ _ _ (omega (arith, x .low, y .high)) t;
@@ -112,17 +141,17 @@ led r c q g h t =
       hh = near-shift _ _ _ _ (omega (arith, x .high, y .high)) t;
     }
 
--- one corner's lead is the sum of the leads
-leads : (r : Rect) (c q : Place) → RectOnGrid r → PlaceOnGrid c → Corners r c q → allNearer r c (rectEndsOf r q) ≡ true
-unfolding allNearer nearerTo dist²
-leads r c q g h k =
-    let on-y = lead (q .y) (g .y) (h .y) .one in
+-- one corner's lead is the leads together
+one-led : (r : Rect) (c q : Place) → Corners r c q → nearer (dist² q c + bothLess r c q) (bothMore r c q) ≡ true
+unfolding nearerTo dist²
+one-led r c q k =
+    let on-y = lead (r .y) (c .y) (q .y) .one in
     ⊎-elim
     (λ u. ⊎-elim (λ v. near-shift _ _ _ _ (omega (arith, u, v)) (k .ll)) (λ v. near-shift _ _ _ _ (omega (arith, u, v)) (k .lh)) on-y)
     (λ u. ⊎-elim (λ v. near-shift _ _ _ _ (omega (arith, u, v)) (k .hl)) (λ v. near-shift _ _ _ _ (omega (arith, u, v)) (k .hh)) on-y)
-    (lead (q .x) (g .x) (h .x) .one)
+    (lead (r .x) (c .x) (q .x) .one)
 
--- with q's ends the test by leads is the corner test
-pub all-nearer : {r : Rect} {c : Place} (q : Place) → RectOnGrid r → PlaceOnGrid c → allNearer r c (rectEndsOf r q) ≡ cornersNearer r c q
-all-nearer {r} {c} q g h =
-    same _ _ (λ t. joined r c q (led r c q g h t)) (λ t. leads r c q g h (corners r c q t))
+-- with q's ends and c's square the test by leads is the corner test
+pub all-nearer : (r : Rect) (c q : Place) → allNearer (rectEndsOf r q) c q (dist² q c) ≡ cornersNearer r c q
+all-nearer r c q =
+    both-led r c q ∙ same _ _ (λ t. joined r c q (each-led r c q t)) (λ t. one-led r c q (corners r c q t))

@@ -7,10 +7,11 @@ use Rattle.grid.specs.declared.place.Place.{Place}
 use Rattle.grid.specs.declared.rect.Rect.{Rect}
 use Rattle.grid.specs.declared.rect.RectEnds.{RectEnds}
 use Rattle.grid.specs.Axis.{sq}
-use Rattle.grid.specs.Place.{PlaceOnGrid, RectOnGrid, RectEndsRaised, Inside, Within, dist², spotOf, rectGrown, areaOf, leastSquare, rectEndsOf}
+use Rattle.grid.specs.Place.{PlaceOnGrid, RectOnGrid, RectEndsFit, Inside, Within, dist², spotOf, rectGrown, areaOf, leastSquare, rectEndsOf}
 use Rattle.grid.proofs.Axis.{sq-sym, sq-most, length-most, gap-square-most, gap-spot, gap-square-least}
 use Rattle.grid.proofs.Axis.{span-comm, span-assoc, span-idem, span-grid, span-refl, span-trans, span-left, span-right, span-least}
-use Rattle.grid.proofs.Axis.{in-span-within, ends-raised}
+use Rattle.grid.proofs.Axis.{in-span-within}
+use Rattle.grid.proofs.Machine.{ends-fit}
 
 -- ---- equal by their fields
 
@@ -103,5 +104,5 @@ pub least-square-spot : (p q : Place) → leastSquare (spotOf p) q ≡ dist² q 
 unfolding leastSquare dist² sq
 least-square-spot p q = simp gap-spot
 
-pub rect-ends-raised : {r : Rect} {q : Place} → RectOnGrid r → PlaceOnGrid q → RectEndsRaised (rectEndsOf r q)
-rect-ends-raised g h = record { x = ends-raised (g .x) (h .x); y = ends-raised (g .y) (h .y) }
+pub rect-ends-fit : {r : Rect} {q : Place} → RectOnGrid r → PlaceOnGrid q → RectEndsFit (rectEndsOf r q)
+rect-ends-fit g h = record { x = ends-fit (g .x) (h .x); y = ends-fit (g .y) (h .y) }

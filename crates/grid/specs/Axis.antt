@@ -1,7 +1,9 @@
 -- One axis, in steps. What serves both axes is said here, once.
 use Prim.Native.Nat.{ℕ, _+_, _-_, _*_, _≤_, min, max}
-use mathlib.Core.Bool.{Bool, _&&_}
+use mathlib.Core.Bool.{Bool, _&&_, cond}
 use lib.Dec.{leb}
+use lib.IntN.{ℤ, pos, natAbs, subℕ, _*ℤ_}
+use lib.Signed.{ltZ}
 use Rattle.grid.specs.declared.span.Span.{Span}
 use Rattle.grid.specs.declared.span.Ends.{Ends}
 
@@ -51,21 +53,19 @@ pub record SpanWithin (s t : Span) : Type 0 where
   pub low : t .low ≤ s .low
   pub high : s .high ≤ t .high
 
--- what is added to a square so that any other can be taken from it: no square of the grid reaches it
-abbrev pub RAISE : ℕ
-RAISE = 8796093022208
+-- the lesser of two signed numbers
+abbrev pub leastOf : ℤ → ℤ → ℤ
+leastOf a b = cond (ltZ a b) a b
 
--- the squares of a coordinate's distances to the two ends of the span, raised
+-- twice how far the two ends of the span lie beyond q
 abbrev pub endsOf : Span → ℕ → Ends
-endsOf s q = record { low = RAISE + sq q (s .low); high = RAISE + sq q (s .high) }
+endsOf s q = record { low = pos 2 *ℤ subℕ (s .low) q; high = pos 2 *ℤ subℕ (s .high) q }
 
--- both ends are raised, and once only
-pub record EndsRaised (e : Ends) : Type 0 where
-  pub low : RAISE ≤ e .low
-  pub lowMost : e .low ≤ 2 * RAISE
-  pub high : RAISE ≤ e .high
-  pub highMost : e .high ≤ 2 * RAISE
+-- no end is further from a place on the grid
+pub record EndsFit (e : Ends) : Type 0 where
+  pub low : natAbs (e .low) ≤ 4000000
+  pub high : natAbs (e .high) ≤ 4000000
 
--- by how much c is nearer at that end of the two where it is least so, raised
-unfoldable pub leadOf : Span → ℕ → Ends → ℕ
-leadOf s c e = min (e .low - sq c (s .low)) (e .high - sq c (s .high))
+-- how far c lies beyond q, times the ends: the lesser of the two products
+unfoldable pub leadOf : Ends → ℕ → ℕ → ℤ
+leadOf e c q = leastOf (subℕ c q *ℤ e .low) (subℕ c q *ℤ e .high)

@@ -1,11 +1,12 @@
 -- What "nearer" means, and the corner test. Nothing else in the repository looks inside `nearer`.
-use Prim.Native.Nat.{ℕ, _+_, _*_}
-use mathlib.Core.Bool.{Bool, _&&_}
+use Prim.Native.Nat.{ℕ}
+use mathlib.Core.Bool.{Bool, false, _&&_}
 use lib.Dec.{ltb}
+use lib.IntN.{ℤ, pos, negsuc, _+ℤ_}
 use Rattle.grid.specs.declared.place.Place.{Place}
 use Rattle.grid.specs.declared.rect.Rect.{Rect}
 use Rattle.grid.specs.declared.rect.RectEnds.{RectEnds}
-use Rattle.grid.specs.Axis.{RAISE, leadOf}
+use Rattle.grid.specs.Axis.{leadOf}
 use Rattle.grid.specs.Place.{dist²}
 
 -- a holder at squared distance d is strictly nearer than one at e
@@ -28,6 +29,11 @@ cornersNearer r c q =
     && (cornerNearer (r .x .high) (r .y .low) c q
     && cornerNearer (r .x .high) (r .y .high) c q))
 
--- c's leads on the two axes are together more than nothing: with the ends that a place q has, all four corners are nearer to c than to q
-unfoldable pub allNearer : Rect → Place → RectEnds → Bool
-allNearer r c e = nearer (2 * RAISE) (leadOf (r .x) (c .x) (e .x) + leadOf (r .y) (c .y) (e .y))
+-- a lead of z is more than a squared distance d
+unfoldable pub led : ℕ → ℤ → Bool
+led d (pos n) = nearer d n
+led d (negsuc n) = false
+
+-- c, at the squared distance d from q, has leads on the two axes that are together more than d: with q's ends, all four corners are nearer to c than to q
+unfoldable pub allNearer : RectEnds → Place → Place → ℕ → Bool
+allNearer e c q d = led d (leadOf (e .x) (c .x) (q .x) +ℤ leadOf (e .y) (c .y) (q .y))

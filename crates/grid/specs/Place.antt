@@ -7,7 +7,7 @@ use Rattle.grid.specs.declared.rect.Rect.{Rect}
 use Rattle.grid.specs.declared.rect.RectEnds.{RectEnds}
 use Rattle.grid.specs.declared.rect.Axis.{Axis}
 use Rattle.grid.specs.declared.rect.Axis.the-variants.{X, Y}
-use Rattle.grid.specs.Axis.{OnGrid, SpanOnGrid, EndsRaised, sq, spanGrown, spanLength, spanSum, gap, endsOf, InSpan, SpanWithin}
+use Rattle.grid.specs.Axis.{OnGrid, SpanOnGrid, EndsFit, sq, spanGrown, spanLength, spanSum, gap, endsOf, InSpan, SpanWithin}
 
 pub record PlaceOnGrid (p : Place) : Type 0 where
   pub x : OnGrid (p .x)
@@ -59,11 +59,10 @@ pub record Within (r s : Rect) : Type 0 where
   pub x : SpanWithin (r .x) (s .x)
   pub y : SpanWithin (r .y) (s .y)
 
--- the squares of a place's distances to the ends of the rectangle, raised
+-- twice how far the ends of the rectangle lie beyond a place
 abbrev pub rectEndsOf : Rect → Place → RectEnds
 rectEndsOf r q = record { x = endsOf (r .x) (q .x); y = endsOf (r .y) (q .y) }
 
--- the ends of both axes are raised, and once only
-pub record RectEndsRaised (e : RectEnds) : Type 0 where
-  pub x : EndsRaised (e .x)
-  pub y : EndsRaised (e .y)
+pub record RectEndsFit (e : RectEnds) : Type 0 where
+  pub x : EndsFit (e .x)
+  pub y : EndsFit (e .y)

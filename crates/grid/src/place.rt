@@ -2,7 +2,7 @@
 ghost use mathlib.Core.Path.{_≡_};
 ghost use Prim.Native.Nat.{_+_, _≤_};
 ghost use Rattle.grid.specs.Place.{PlaceOnGrid, dist², spotOf};
-ghost use Rattle.grid.specs.Nearer.{nearer};
+ghost use Rattle.grid.specs.Nearer.{nearer, led};
 use crate::rect::Rect;
 use crate::span::Span;
 use crate::span::square;
@@ -17,6 +17,14 @@ pub fn is_nearer(d: u64, e: u64) -> bool
     ensures { λ r. ⌜ r ≡ nearer d e ⌝ }
 {
     d < e
+}
+
+// The same for one that leads by a signed number where it has to lead by more than a squared distance d.
+pub fn is_led(d: u64, lead: i64) -> bool
+    requires { ⌜ d ≤ 8000000000000 ⌝ }
+    ensures { λ r. ⌜ r ≡ led d lead ⌝ }
+{
+    (d as i64) < lead
 }
 
 impl Place {

@@ -1,12 +1,11 @@
 // A rectangle by value: grown, area, least squared distance, corner test.
 ghost use mathlib.Core.Path.{_≡_};
 ghost use Prim.Native.Nat.{_+_, _-_, _*_, _≤_};
-ghost use Rattle.grid.specs.Place.{PlaceOnGrid, RectOnGrid, RectEndsRaised, rectGrown, areaOf, growthOf, longerAxis, sumOn, leastSquare, rectEndsOf};
+ghost use Rattle.grid.specs.Place.{PlaceOnGrid, RectOnGrid, RectEndsFit, rectGrown, areaOf, growthOf, longerAxis, sumOn, leastSquare, rectEndsOf};
 ghost use Rattle.grid.specs.Nearer.{allNearer};
 use crate::place::Place;
-use crate::place::is_nearer;
+use crate::place::is_led;
 use crate::span::Ends;
-use crate::span::RAISE;
 use crate::span::Span;
 use crate::span::beyond;
 
@@ -15,7 +14,7 @@ pub struct Rect {
     pub y: Span,
 }
 
-// The squares of a place's distances to the ends of a rectangle, axis by axis, raised.
+// Twice how far the ends of a rectangle lie beyond a place, axis by axis.
 pub struct RectEnds {
     pub x: Ends,
     pub y: Ends,
@@ -82,7 +81,7 @@ impl Rect {
         self.x.gap_square(q.x) + self.y.gap_square(q.y)
     }
 
-    // The squares of q's distances to the ends, raised: computed once for many c.
+    // Twice how far the ends lie beyond q: computed once for many c.
     pub fn ends(self, q: Place) -> RectEnds
         requires { ⌜ RectOnGrid self × PlaceOnGrid q ⌝ }
         ensures { λ r. ⌜ r ≡ rectEndsOf self q ⌝ }
@@ -92,15 +91,14 @@ impl Rect {
             y: self.y.ends(q.y),
         }
     }
+}
 
-    // The corner test, with q's squares at hand: all four corners are nearer to c than to the place that the squares are of.
-    pub fn all_nearer(self, c: Place, ends: RectEnds) -> bool
-        requires { ⌜ RectOnGrid self × PlaceOnGrid c × RectEndsRaised ends ⌝ }
-        ensures { λ r. ⌜ r ≡ allNearer self c ends ⌝ }
+impl RectEnds {
+    // The corner test with the ends at hand: all four corners are nearer to c, which is at the squared distance `square` from q, than to q.
+    pub fn all_nearer(self, c: Place, q: Place, square: u64) -> bool
+        requires { ⌜ RectEndsFit self × PlaceOnGrid c × PlaceOnGrid q × (square ≤ 8000000000000) ⌝ }
+        ensures { λ r. ⌜ r ≡ allNearer self c q square ⌝ }
     {
-        is_nearer(
-            2 * RAISE,
-            self.x.lead(c.x, ends.x) + self.y.lead(c.y, ends.y),
-        )
+        is_led(square, self.x.lead(c.x, q.x) + self.y.lead(c.y, q.y))
     }
 }

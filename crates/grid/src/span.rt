@@ -1,20 +1,18 @@
 // One axis of a rectangle: a stretch of steps. What serves both axes is here, once.
 ghost use mathlib.Core.Path.{_≡_};
 ghost use Prim.Native.Nat.{_+_, _-_, _*_, _≤_, _<_, min, max};
-ghost use Rattle.grid.specs.Axis.{OnGrid, SpanOnGrid, EndsRaised, sq, spanGrown, spanLength, spanSum, gap, endsOf, leadOf};
+ghost use lib.IntN.{subℕ};
+ghost use Rattle.grid.specs.Axis.{OnGrid, SpanOnGrid, EndsFit, sq, spanGrown, spanLength, spanSum, gap, leastOf, endsOf, leadOf};
 
 pub struct Span {
     pub low: u64,
     pub high: u64,
 }
 
-// What is added to a square so that any other can be taken from it: no square of the grid reaches it.
-pub const RAISE: u64 = 8796093022208;
-
-// The squares of a coordinate's distances to the two ends of a span, raised.
+// Twice how far the two ends of a span lie beyond a coordinate; below nothing where they lie short of it.
 pub struct Ends {
-    pub low: u64,
-    pub high: u64,
+    pub low: i64,
+    pub high: i64,
 }
 
 // How far a lies beyond b; 0 if it does not.
@@ -36,7 +34,22 @@ pub fn greater(a: u64, b: u64) -> u64
     if a < b { b } else { a }
 }
 
-// The squared distance of two coordinates. A signed difference has no branch: its square does not ask which is the greater.
+// The lesser of two signed numbers.
+fn least(a: i64, b: i64) -> i64
+    ensures { λ r. ⌜ r ≡ leastOf a b ⌝ }
+{
+    if a < b { a } else { b }
+}
+
+// How far a lies beyond b; below nothing where it lies short of it. It has no branch.
+fn from(a: u64, b: u64) -> i64
+    requires { ⌜ OnGrid a × OnGrid b ⌝ }
+    ensures { λ r. ⌜ r ≡ subℕ a b ⌝ }
+{
+    a as i64 - b as i64
+}
+
+// The squared distance of two coordinates. The square of a signed difference does not ask which is the greater.
 pub fn square(a: u64, b: u64) -> u64
     requires { ⌜ OnGrid a × OnGrid b ⌝ }
     ensures { λ r. ⌜ r ≡ sq a b ⌝ }
@@ -79,24 +92,24 @@ impl Span {
         d * d
     }
 
-    // The squares of q's distances to the two ends, raised: computed once for many c.
+    // Twice how far the two ends lie beyond q: computed once for many c.
     pub fn ends(self, q: u64) -> Ends
         requires { ⌜ SpanOnGrid self × OnGrid q ⌝ }
         ensures { λ r. ⌜ r ≡ endsOf self q ⌝ }
     {
-        let low = RAISE + square(q, self.low);
-        let high = RAISE + square(q, self.high);
+        let low = 2 * from(self.low, q);
+        let high = 2 * from(self.high, q);
         Ends { low, high }
     }
+}
 
-    // By how much c is nearer at that end of the two where it is least so, raised.
-    pub fn lead(self, c: u64, ends: Ends) -> u64
-        requires { ⌜ SpanOnGrid self × OnGrid c × EndsRaised ends ⌝ }
-        ensures { λ r. ⌜ r ≡ leadOf self c ends ⌝ }
+impl Ends {
+    // How far c lies beyond q, times the ends: the lesser of the two products.
+    pub fn lead(self, c: u64, q: u64) -> i64
+        requires { ⌜ EndsFit self × OnGrid c × OnGrid q ⌝ }
+        ensures { λ r. ⌜ r ≡ leadOf self c q ⌝ }
     {
-        lesser(
-            ends.low - square(c, self.low),
-            ends.high - square(c, self.high),
-        )
+        let away = from(c, q);
+        least(away * self.low, away * self.high)
     }
 }

@@ -10,7 +10,7 @@ use Rattle.table.proofs.Slots.{page-few}
 use Rattle.audit.proofs.Joined.{all-then}
 use Rattle.filter.specs.Walk.{each, nearestFirst, entered, walk as walkOf}
 use Rattle.filter.specs.Rows.{rows, foundIn, Noted}
-use Rattle.filter.proofs.Visits.{kept-grid, noted-same, enter-hidden, enter-open, enter-ready}
+use Rattle.filter.proofs.Visits.{kept-grid, kept-square, noted-same, enter-hidden, enter-open, enter-ready}
 use Rattle.filter.proofs.Turns.{walk-opens}
 use Rattle.filter.proofs.Taken.{taken-below}
 use Rattle.filter.proofs.NodeTurns.{
@@ -211,15 +211,15 @@ walk-add-i t c = search needs
 
 walk-hides-box-requires : (t : ℕ) → walk-lts.Need-hides-box-requires (knows t) (walk-at t) walk.Post walk-Inv-loop walk-μ-loop
 walk-hides-box-requires t c κs =
-    let x = turn-here t (c .before .before) in
-    ((x .kept .room .xs, x .kept .room .ys), (x .good .0, x .ready .grid, kept-grid (x .kept)))
+    let x = turn-here t (c .before .before .before) in
+    ((x .kept .room .xs, x .kept .room .ys, x .kept .room .squares), ((x .good .0, x .ready .grid, kept-grid (x .kept)), kept-square (x .kept)))
 
 walk-loop-less : (t : ℕ) → walk-lts.Need-loop-less (knows t) (walk-at t) walk.Post walk-Inv-loop walk-μ-loop
 walk-loop-less t c = search needs
 
 walk-loop-again : (t : ℕ) → walk-lts.Need-loop-again (knows t) (walk-at t) walk.Post walk-Inv-loop walk-μ-loop
 walk-loop-again t c =
-    let e = c .before .before .before .before in
+    let e = c .before .before .before .before .before in
     let x = turn-here t e in
     let l = e .before .before in
     let a = l .before .before .before .before .before .before .args in
@@ -235,7 +235,7 @@ walk-loop-again t c =
 walk-walk-requires : (t : ℕ) → walk-lts.Need-walk-requires (knows t) (walk-at t) walk.Post walk-Inv-loop walk-μ-loop
 walk-walk-requires t c κs =
     let f = c .before .before .before .before in
-    let e = f .before .before .before .before in
+    let e = f .before .before .before .before .before in
     let x = turn-here t e in
     let l = e .before .before in
     let s = l .before .before .before .before .before .before in
@@ -252,7 +252,7 @@ walk-loop-again-2 : (t : ℕ) → walk-lts.Need-loop-again-2 (knows t) (walk-at 
 walk-loop-again-2 t c =
     let v = c .before .before .before .before .before in
     let f = v .before .before .before .before .before in
-    let e = f .before .before .before .before in
+    let e = f .before .before .before .before .before in
     let l = e .before .before in
     let a = l .before .before .before .before .before .before .args in
     let r = rows (l .loop .numbers) (l .loop .xs) (l .loop .ys) (l .loop .squares) in (

@@ -1,32 +1,36 @@
--- `grid::span::Span::ends` meets its contract: each square of the grid fits when raised. Assumes nothing.
-use mathlib.Core.Path.{ap}
-use Prim.Native.Nat.{ℕ, _+_, _≤_}
-use native.Mathlib.Omega.{arith}
+-- `grid::span::Span::ends` meets its contract: no end of the grid is further off than the grid is wide. Assumes nothing.
+use Prim.Native.Nat.{_≤_}
+use mathlib.Core.Path.{_∙_, ap}
 use borrow.Author.Needs.{needs}
-use Rattle.grid.specs.Axis.{RAISE}
-use Rattle.grid.proofs.Axis.{sq-most, ends-ext}
+use lib.IntN.{ℤ, pos, natAbs, _*ℤ_}
+use Rattle.grid.proofs.Axis.{ends-ext}
+use Rattle.grid.proofs.Machine.{sub-most, twice-fits, twice-back}
 use Rattle.grid.proofs.span.Span.ends.Statement.{statement}
 use Rattle.grid.proofs.span.Span.ends.Tie as tie
 
-square-requires : tie.Need-square-requires
-square-requires c κs = search needs
+from-requires : tie.Need-from-requires
+from-requires c κs = search needs
 
-add-low : tie.Need-add-low
-add-low c =
-    let l : c .square .result ≤ 4000000000000 = rw (c .square .ensures) (sq-most _ _ (search needs) (search needs)) in
-    record { fits = omega arith }
+low-most : (c : tie.After-from) → natAbs (c .from .result) ≤ 2000000
+low-most c = rw (c .from .ensures) (sub-most _ _ (c .before .pre .0 .low) (c .before .pre .1))
 
-square-requires-2 : tie.Need-square-requires-2
-square-requires-2 c κs = search needs
+mul-low : tie.Need-mul-low
+mul-low c = twice-fits (c .from .result) (low-most c)
 
-add-high : tie.Need-add-high
-add-high c =
-    let l : c .square2 .result ≤ 4000000000000 = rw (c .square2 .ensures) (sq-most _ _ (search needs) (search needs)) in
-    record { fits = omega arith }
+from-requires-2 : tie.Need-from-requires-2
+from-requires-2 c κs = search needs
+
+high-most : (c : tie.After-from2) → natAbs (c .from2 .result) ≤ 2000000
+high-most c = rw (c .from2 .ensures) (sub-most _ _ (c .before .before .pre .0 .high) (c .before .before .pre .1))
+
+mul-high : tie.Need-mul-high
+mul-high c = twice-fits (c .from2 .result) (high-most c)
 
 returns : tie.Need-returns
 returns c =
-    ends-ext (ap (λ (n : ℕ). RAISE + n) (c .before .square .ensures)) (ap (λ (n : ℕ). RAISE + n) (c .square2 .ensures))
+    ends-ext
+    (twice-back (c .before .from .result) (low-most (c .before)) ∙ ap (λ (z : ℤ). pos 2 *ℤ z) (c .before .from .ensures))
+    (twice-back (c .from2 .result) (high-most c) ∙ ap (λ (z : ℤ). pos 2 *ℤ z) (c .from2 .ensures))
 
 pub ends-spec : {M : Type 1} → statement M
-ends-spec = tie.close (tie.spec square-requires add-low square-requires-2 add-high returns)
+ends-spec = tie.close (tie.spec from-requires mul-low from-requires-2 mul-high returns)
