@@ -6,10 +6,10 @@ use mathlib.Core.Bool.{Bool, true, false, cond, not, _&&_}
 use lib.Dec.{eqb, ltb}
 use lib.ListN.{length, drop}
 use borrow.Author.Tests.{eqb-true, eq-eqb, ltb-true, lt-ltb, not-true}
-use Rattle.grid.specs.Word.{natOf}
-use Rattle.grid.specs.declared.span.Span.{Span}
+use Rattle.axis.specs.Word.{natOf}
+use Rattle.axis.specs.declared.span.Span.{Span}
 use Rattle.grid.specs.declared.rect.Rect.{Rect}
-use Rattle.grid.proofs.Axis.{span-ext}
+use Rattle.axis.proofs.Axis.{span-ext}
 use Rattle.grid.proofs.Rects.{rect-ext}
 use Rattle.order.specs.Lists.{every, join, All}
 use Rattle.order.specs.Order.{upFrom}

@@ -8,12 +8,12 @@ use mathlib.Core.List.{List, [], _∷_, List·Memᴰ·head, List·Memᴰ·tail, 
 use lib.Dec.{eqb}
 use lib.ListN.{length, getD, length-map}
 use borrow.Author.Tests.{eqb-true}
-use Rattle.grid.specs.Word.{natOf}
-use Rattle.grid.specs.declared.span.Span.{Span}
+use Rattle.axis.specs.Word.{natOf}
+use Rattle.axis.specs.declared.span.Span.{Span}
 use Rattle.grid.specs.declared.rect.Rect.{Rect}
-use Rattle.grid.specs.Axis.{OnGrid}
+use Rattle.axis.specs.Axis.{OnGrid}
 use Rattle.grid.specs.Place.{RectOnGrid, rectGrown, spotOf}
-use Rattle.grid.proofs.Axis.{span-ext}
+use Rattle.axis.proofs.Axis.{span-ext}
 use Rattle.grid.proofs.Rects.{rect-ext, grown-grid}
 use Rattle.order.specs.Lists.{Mem, All, NoDup}
 use Rattle.order.proofs.Lists.{map-at, all-mem, mem-all}

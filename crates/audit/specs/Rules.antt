@@ -6,9 +6,9 @@ use mathlib.Core.List.{List, [], _∷_, _++_, map}
 use lib.Dec.{eqb, leb, ltb}
 use lib.IntN.{ℤ, pos, negsuc}
 use lib.ListN.{length, drop}
-use Rattle.grid.specs.Word.{natOf}
+use Rattle.axis.specs.Word.{natOf}
 use Rattle.grid.specs.declared.rect.Rect.{Rect}
-use Rattle.grid.specs.declared.span.Span.{Span}
+use Rattle.axis.specs.declared.span.Span.{Span}
 use Rattle.order.specs.Order.{upFrom}
 use Rattle.order.specs.Lists.{count, every, has, join}
 use Rattle.table.specs.declared.node.Entry.{Entry}

@@ -5,7 +5,7 @@ ghost use Rattle.order.specs.Lists.{every};
 ghost use Rattle.table.specs.Figures.{LENGTH};
 ghost use Rattle.table.specs.Slots.{slots, isFree};
 ghost use Rattle.audit.specs.Rules.{isEmpty, rule2};
-use grid::border;
+use axis::border;
 use table::figures::Table;
 use table::part;
 use table::slot;

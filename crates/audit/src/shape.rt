@@ -7,7 +7,7 @@ ghost use Rattle.table.specs.Figures.{SLOTS, LENGTH};
 ghost use Rattle.table.specs.Words.{isZero};
 ghost use Rattle.table.specs.Slots.{slots};
 ghost use Rattle.audit.specs.Rules.{rule1, rule3, leastFill};
-use grid::border;
+use axis::border;
 use table::figures::Table;
 use table::part;
 use table::slot;

@@ -6,7 +6,7 @@ use mathlib.Core.Bool.{Bool, true, false, not, _&&_}
 use mathlib.Core.List.{List, [], _∷_, _++_}
 use lib.Dec.{eqb}
 use borrow.Author.Tests.{eqb-true, eq-eqb}
-use Rattle.grid.specs.declared.span.Span.{Span}
+use Rattle.axis.specs.declared.span.Span.{Span}
 use Rattle.order.specs.Lists.{one, join, All, Same}
 use Rattle.order.specs.Order.{Perm}
 use Rattle.order.proofs.Lists.{count-append, all-mem, mem-all, same-perm}

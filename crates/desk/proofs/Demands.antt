@@ -7,7 +7,7 @@ use lib.Dec.{eqb}
 use lib.IntN.{ℤ}
 use lib.ListN.{length}
 use native.Mathlib.Omega.{arith}
-use Rattle.grid.specs.Word.{natOf}
+use Rattle.axis.specs.Word.{natOf}
 use Rattle.grid.specs.Site.{Site}
 use Rattle.order.specs.Order.{Perm, pskip, ptrans}
 use Rattle.order.proofs.Perm.{prefl}

@@ -6,7 +6,7 @@ use mathlib.Core.List.{List, [], _∷_}
 use lib.Dec.{eqb}
 use lib.IntN.{ℤ}
 use lib.ListN.{length}
-use Rattle.grid.specs.Word.{IsWord, natOf}
+use Rattle.axis.specs.Word.{IsWord, natOf}
 use Rattle.grid.specs.Site.{Site}
 use Rattle.order.specs.Order.{Perm}
 use Rattle.order.specs.Lists.{count, filter, All}

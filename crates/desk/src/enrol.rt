@@ -9,7 +9,7 @@ ghost use Rattle.desk.specs.Calls.{pointEntry, afterEnrol};
 use crate::refuse;
 use crate::words::are_words;
 use audit::check;
-use grid::border;
+use axis::border;
 use grid::place::Place;
 use joining::enrol::enrol_in;
 use table::given::Given;

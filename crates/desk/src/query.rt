@@ -2,7 +2,7 @@
 ghost use mathlib.Core.Path.{_≡_};
 ghost use mathlib.Core.Bool.{true};
 ghost use lib.ListN.{length};
-ghost use Rattle.grid.specs.Word.{natOf};
+ghost use Rattle.axis.specs.Word.{natOf};
 ghost use Rattle.table.specs.Figures.{LENGTH};
 ghost use Rattle.audit.specs.Rules.{wellFormed};
 ghost use Rattle.filter.specs.Query.{answersFound};
@@ -11,7 +11,7 @@ ghost use Rattle.desk.specs.Lent.{told, refuses, Answers};
 use crate::refuse;
 use crate::words::are_words;
 use audit::check;
-use grid::border::natural;
+use axis::border::natural;
 use row::answer::Reply;
 use row::answer::answer;
 use row::record::Candidate;

@@ -6,7 +6,7 @@ ghost use Rattle.order.specs.Lists.{has};
 ghost use Rattle.table.specs.Figures.{SLOTS, LENGTH};
 ghost use Rattle.audit.specs.Rules.{numbersAt};
 ghost use Rattle.desk.specs.Refusals.{site, noSuchNumber, offGrid, noSuchK, isEnrolled, isFull};
-use grid::border;
+use axis::border;
 use table::figures::Table;
 use table::slot;
 

@@ -9,7 +9,7 @@ ghost use Rattle.desk.specs.Calls.{afterWithdraw};
 use crate::refuse;
 use crate::words::are_words;
 use audit::check;
-use grid::border;
+use axis::border;
 use leaving::withdraw::withdraw_in;
 use table::given::Given;
 

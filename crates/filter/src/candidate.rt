@@ -4,14 +4,14 @@ ghost use mathlib.Core.Bool.{true};
 ghost use Prim.Native.Nat.{_<_};
 ghost use lib.IntN.{pos};
 ghost use lib.ListN.{length, set};
-ghost use Rattle.grid.specs.Word.{wordOf};
+ghost use Rattle.axis.specs.Word.{wordOf};
 ghost use Rattle.grid.specs.Place.{PlaceOnGrid, dist²};
 ghost use Rattle.table.specs.Stations.{isPoint};
 ghost use Rattle.filter.specs.Walk.{spotIn, visited};
 ghost use Rattle.filter.specs.Rows.{rows, Ready, Went};
 use crate::discard::hides_point;
 use crate::seen::Seen;
-use grid::border;
+use axis::border;
 use grid::place::Place;
 use table::node::Entry;
 

@@ -8,7 +8,7 @@ ghost use Rattle.grid.specs.Nearer.{nearerTo, cornersNearer};
 ghost use Rattle.order.specs.Lists.{one as oneOf, count};
 ghost use Rattle.order.specs.Order.{upFrom};
 ghost use Rattle.filter.specs.Rows.{placeIn};
-use grid::border;
+use axis::border;
 use grid::place::Place;
 use grid::place::is_nearer;
 use grid::rect::Rect;

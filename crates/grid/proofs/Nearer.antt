@@ -10,9 +10,9 @@ use Rattle.grid.specs.declared.place.Place.{Place}
 use Rattle.grid.specs.declared.rect.Rect.{Rect}
 use Rattle.grid.specs.Place.{Inside, dist², rectEndsOf}
 use Rattle.grid.specs.Nearer.{nearer, nearerTo, cornerNearer, cornersNearer, led, allNearer}
-use Rattle.grid.specs.Axis.{endsOf, leadOf}
-use Rattle.grid.proofs.Axis.{worst, lead}
-use Rattle.grid.proofs.Signs.{Is, is-plus}
+use Rattle.axis.specs.Axis.{endsOf, leadOf}
+use Rattle.axis.proofs.Axis.{worst, lead}
+use Rattle.axis.proofs.Signs.{Is, is-plus}
 
 -- ---- what holds of strictly nearer, and would hold of nearer or equal
 

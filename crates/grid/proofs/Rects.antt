@@ -6,12 +6,12 @@ use native.Mathlib.Omega.{arith}
 use Rattle.grid.specs.declared.place.Place.{Place}
 use Rattle.grid.specs.declared.rect.Rect.{Rect}
 use Rattle.grid.specs.declared.rect.RectEnds.{RectEnds}
-use Rattle.grid.specs.Axis.{sq}
+use Rattle.axis.specs.Axis.{sq}
 use Rattle.grid.specs.Place.{PlaceOnGrid, RectOnGrid, RectEndsFit, Inside, Within, dist², spotOf, rectGrown, areaOf, leastSquare, rectEndsOf}
-use Rattle.grid.proofs.Axis.{sq-sym, sq-most, length-most, gap-square-most, gap-spot, gap-square-least}
-use Rattle.grid.proofs.Axis.{span-comm, span-assoc, span-idem, span-grid, span-refl, span-trans, span-left, span-right, span-least}
-use Rattle.grid.proofs.Axis.{in-span-within}
-use Rattle.grid.proofs.Machine.{ends-fit}
+use Rattle.axis.proofs.Axis.{sq-sym, sq-most, length-most, gap-square-most, gap-spot, gap-square-least}
+use Rattle.axis.proofs.Axis.{span-comm, span-assoc, span-idem, span-grid, span-refl, span-trans, span-left, span-right, span-least}
+use Rattle.axis.proofs.Axis.{in-span-within}
+use Rattle.axis.proofs.Machine.{ends-fit}
 
 -- ---- equal by their fields
 

@@ -6,7 +6,7 @@ use lib.IntN.{ℤ, pos, negsuc, _+ℤ_}
 use Rattle.grid.specs.declared.place.Place.{Place}
 use Rattle.grid.specs.declared.rect.Rect.{Rect}
 use Rattle.grid.specs.declared.rect.RectEnds.{RectEnds}
-use Rattle.grid.specs.Axis.{leadOf}
+use Rattle.axis.specs.Axis.{leadOf}
 use Rattle.grid.specs.Place.{dist²}
 
 -- a holder at squared distance d is strictly nearer than one at e

@@ -7,7 +7,7 @@ use Rattle.grid.specs.declared.rect.Rect.{Rect}
 use Rattle.grid.specs.declared.rect.RectEnds.{RectEnds}
 use Rattle.grid.specs.declared.rect.Axis.{Axis}
 use Rattle.grid.specs.declared.rect.Axis.the-variants.{X, Y}
-use Rattle.grid.specs.Axis.{OnGrid, SpanOnGrid, EndsFit, sq, spanGrown, spanLength, spanSum, gap, endsOf, InSpan, SpanWithin}
+use Rattle.axis.specs.Axis.{OnGrid, SpanOnGrid, EndsFit, sq, spanGrown, spanLength, spanSum, gap, endsOf, InSpan, SpanWithin}
 
 pub record PlaceOnGrid (p : Place) : Type 0 where
   pub x : OnGrid (p .x)

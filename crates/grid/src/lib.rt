@@ -1,7 +1,5 @@
-// The grid: where a word of a table becomes a number of steps, and what is measured in steps.
-// It promises, for every word and for every place on the grid, the exact number that its definition in specs/ gives.
-// It stands on nothing.
-pub mod border;
+// The grid: places and rectangles, each measure made of two axes, and the one word that decides what is nearer.
+// It promises, for every place and every rectangle on the grid, the exact number that its definition in specs/ gives.
+// It stands on crate axis.
 pub mod place;
 pub mod rect;
-pub mod span;

@@ -4,8 +4,8 @@ ghost use Prim.Native.Nat.{_+_, _≤_};
 ghost use Rattle.grid.specs.Place.{PlaceOnGrid, dist², spotOf};
 ghost use Rattle.grid.specs.Nearer.{nearer, led};
 use crate::rect::Rect;
-use crate::span::Span;
-use crate::span::square;
+use axis::span::Span;
+use axis::span::square;
 
 pub struct Place {
     pub x: u64,

@@ -5,9 +5,9 @@ ghost use Rattle.grid.specs.Place.{PlaceOnGrid, RectOnGrid, RectEndsFit,
 ghost use Rattle.grid.specs.Nearer.{allNearer};
 use crate::place::Place;
 use crate::place::is_led;
-use crate::span::Ends;
-use crate::span::Span;
-use crate::span::beyond;
+use axis::span::Ends;
+use axis::span::Span;
+use axis::span::beyond;
 
 pub struct Rect {
     pub x: Span,

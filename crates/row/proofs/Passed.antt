@@ -7,7 +7,7 @@ use mathlib.Core.Bool.{Bool, true, false, cond}
 use mathlib.Core.List.{List, [], _∷_, _++_, map, map-append, append-nil}
 use lib.ListN.{length, set, getD, take, length-append, length-set}
 use lib.Seq.{take-suc}
-use Rattle.grid.specs.Word.{natOf}
+use Rattle.axis.specs.Word.{natOf}
 use Rattle.order.specs.Lists.{filter}
 use Rattle.table.specs.Words.{Words}
 use Rattle.filter.specs.Query.{laidOver}

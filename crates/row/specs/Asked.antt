@@ -6,7 +6,7 @@ use mathlib.Core.List.{List, map}
 use lib.Dec.{leb}
 use lib.IntN.{pos}
 use lib.ListN.{length}
-use Rattle.grid.specs.Word.{onGrid, wordOf}
+use Rattle.axis.specs.Word.{onGrid, wordOf}
 use Rattle.grid.specs.Site.{Site, placeOf}
 use Rattle.grid.specs.Place.{dist²}
 use Rattle.table.specs.declared.node.Entry.{Entry}

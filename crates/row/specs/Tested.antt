@@ -4,7 +4,7 @@ use mathlib.Core.Path.{_≡_}
 use mathlib.Core.Bool.{Bool, true}
 use mathlib.Core.List.{List, map}
 use lib.ListN.{length, getD}
-use Rattle.grid.specs.Word.{IsWord, stepsOf, natOf}
+use Rattle.axis.specs.Word.{IsWord, stepsOf, natOf}
 use Rattle.grid.specs.declared.place.Place.{Place}
 use Rattle.grid.specs.Place.{spotOf}
 use Rattle.order.specs.Lists.{All, filter}

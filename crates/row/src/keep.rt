@@ -3,14 +3,14 @@ ghost use mathlib.Core.Path.{_≡_};
 ghost use mathlib.Core.Bool.{true, cond};
 ghost use Prim.Native.Nat.{_+_, _<_};
 ghost use lib.ListN.{length, set, take};
-ghost use Rattle.grid.specs.Word.{natOf};
+ghost use Rattle.axis.specs.Word.{natOf};
 ghost use Rattle.table.specs.Stations.{isPoint};
 ghost use Rattle.filter.specs.Query.{laidOver};
 ghost use Rattle.row.specs.Tested.{entryOf, passesAs, numbersPassing, Checked, Keepable};
 use crate::record::Candidate;
 use crate::record::record_at;
+use axis::border;
 use filter::test::passes;
-use grid::border;
 use grid::place::Place;
 
 // If the candidate passes, its number goes to place n of `kept`; gives back the next free place.

@@ -7,11 +7,11 @@ use mathlib.Core.List.{List, [], _∷_, _++_, List·Memᴰ·cases-cons, List·Me
 use native.Mathlib.Numerals.{add-one}
 use lib.ListN.{length, take, getD}
 use lib.Seq.{take-suc, length-take-le}
-use Rattle.grid.specs.declared.span.Span.{Span}
+use Rattle.axis.specs.declared.span.Span.{Span}
 use Rattle.grid.specs.declared.rect.Rect.{Rect}
-use Rattle.grid.specs.Axis.{SpanWithin}
+use Rattle.axis.specs.Axis.{SpanWithin}
 use Rattle.grid.specs.Place.{RectOnGrid, Within, rectGrown}
-use Rattle.grid.proofs.Axis.{span-ext}
+use Rattle.axis.proofs.Axis.{span-ext}
 use Rattle.grid.proofs.Rects.{rect-ext, grown-assoc, grown-grid, within-trans, within-left, within-right, within-least, within-refl}
 use Rattle.order.specs.Lists.{Mem, All}
 use Rattle.order.specs.Order.{Perm}

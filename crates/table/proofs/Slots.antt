@@ -10,10 +10,10 @@ use native.Mathlib.Omega.{arith}
 use lib.IntN.{ℤ, pos}
 use lib.ListN.{length, getD, take, drop, set, replicate, length-append, length-drop, length-map, length-replicate}
 use lib.Seq.{getD-take, getD-drop, split-at, drop-set-lt, length-take-le, getD-append-add}
-use Rattle.grid.proofs.Axis.{span-ext}
+use Rattle.axis.proofs.Axis.{span-ext}
 use Rattle.grid.proofs.Rects.{rect-ext}
-use Rattle.grid.proofs.Words.{steps-word}
-use Rattle.grid.specs.Word.{stepsOf, natOf}
+use Rattle.axis.proofs.Words.{steps-word}
+use Rattle.axis.specs.Word.{stepsOf, natOf}
 use Rattle.order.specs.Lists.{All, firstPlace}
 use Rattle.order.specs.Order.{upFrom}
 use Rattle.order.proofs.Lists.{by-bool, map-at, all-at}

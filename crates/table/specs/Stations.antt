@@ -4,10 +4,10 @@ use mathlib.Core.Bool.{Bool, cond, _&&_}
 use mathlib.Core.List.{List, [], map}
 use lib.Dec.{eqb}
 use lib.IntN.{ℤ}
-use Rattle.grid.specs.Word.{natOf, wordOf}
-use Rattle.grid.specs.Axis.{stepOnGrid}
+use Rattle.axis.specs.Word.{natOf, wordOf}
+use Rattle.axis.specs.Axis.{stepOnGrid}
 use Rattle.grid.specs.Site.{Site}
-use Rattle.grid.specs.declared.span.Span.{Span}
+use Rattle.axis.specs.declared.span.Span.{Span}
 use Rattle.order.specs.Order.{upFrom}
 use Rattle.order.specs.Lists.{join}
 use Rattle.table.specs.declared.node.Entry.{Entry}

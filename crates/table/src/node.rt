@@ -4,8 +4,8 @@ ghost use Prim.Native.Nat.{_+_, _-_, _≤_, _<_};
 ghost use mathlib.Core.List.{[], _∷_, _++_};
 ghost use lib.ListN.{length, take, drop, set, getD};
 ghost use Rattle.table.specs.Page.{page, held, shown, Shows, without as withoutOf, coverOf, blankEntry};
+use axis::span::Span;
 use grid::rect::Rect;
-use grid::span::Span;
 
 pub struct Entry {
     // A point number in a leaf, a child slot above.

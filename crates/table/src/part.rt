@@ -8,9 +8,9 @@ ghost use Rattle.table.specs.Page.{Shows, shown, EntryFits, PageFits, en
 use crate::figures::Table;
 use crate::node::Entry;
 use crate::node::Node;
-use grid::border;
+use axis::border;
+use axis::span::Span;
 use grid::rect::Rect;
-use grid::span::Span;
 
 // The word −1, in steps: the level of a free slot, and the root of an empty table.
 pub const NONE: u64 = 2147483647;

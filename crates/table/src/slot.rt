@@ -11,7 +11,7 @@ use crate::figures::Table;
 use crate::node::Entry;
 use crate::node::Node;
 use crate::part;
-use grid::border;
+use axis::border;
 
 // Where a slot's words start, and those of the slot before it end.
 fn start(slot: usize) -> usize

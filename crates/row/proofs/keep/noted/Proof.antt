@@ -5,8 +5,8 @@ use mathlib.Core.Path.{_≡_, refl, sym, ap, _∙_}
 use mathlib.Core.Bool.{Bool}
 use lib.ListN.{set}
 use borrow.Author.Tests.{not-true, not-false}
-use Rattle.grid.specs.Word.{stepsOf, natOf}
-use Rattle.grid.proofs.Machine.{steps-passed, natural-passed}
+use Rattle.axis.specs.Word.{stepsOf, natOf}
+use Rattle.axis.proofs.Machine.{steps-passed, natural-passed}
 use Rattle.table.specs.Words.{Words}
 use Rattle.audit.proofs.Reading.{point}
 use Rattle.filter.specs.Test.{passes}

@@ -3,7 +3,7 @@ use Prim.Native.Nat.{_≤_}
 use native.Mathlib.Omega.{arith}
 use borrow.Author.Needs.{needs}
 use Rattle.grid.specs.Place.{dist²}
-use Rattle.grid.proofs.Axis.{sq-most}
+use Rattle.axis.proofs.Axis.{sq-most}
 use Rattle.grid.proofs.place.Place.square_to.Statement.{statement}
 use Rattle.grid.proofs.place.Place.square_to.Tie as tie
 

@@ -3,7 +3,7 @@ use Prim.Native.Nat.{_≤_}
 use native.Mathlib.Omega.{arith}
 use borrow.Author.Needs.{needs}
 use Rattle.grid.specs.Place.{leastSquare}
-use Rattle.grid.proofs.Axis.{gap-square-most}
+use Rattle.axis.proofs.Axis.{gap-square-most}
 use Rattle.grid.proofs.rect.Rect.least_square.Statement.{statement}
 use Rattle.grid.proofs.rect.Rect.least_square.Tie as tie
 

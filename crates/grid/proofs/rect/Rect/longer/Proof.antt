@@ -2,7 +2,7 @@
 use borrow.Author.Needs.{needs}
 use borrow.Author.Tests.{lt-ltb, le-ltb}
 use native.Mathlib.Omega.{arith}
-use Rattle.grid.specs.Axis.{spanLength}
+use Rattle.axis.specs.Axis.{spanLength}
 use Rattle.grid.specs.Place.{longerAxis}
 use Rattle.grid.proofs.rect.Rect.longer.Statement.{statement}
 use Rattle.grid.proofs.rect.Rect.longer.Tie as tie

@@ -3,9 +3,9 @@ use Prim.Native.Nat.{_≤_}
 use mathlib.Core.Path.{_≡_, refl, _∙_, ap}
 use borrow.Author.Needs.{needs}
 use lib.IntN.{ℤ, natAbs, _+ℤ_}
-use Rattle.grid.specs.Axis.{leadOf}
+use Rattle.axis.specs.Axis.{leadOf}
 use Rattle.grid.specs.Nearer.{led, allNearer}
-use Rattle.grid.proofs.Machine.{lead-most, leads-fit, leads-back}
+use Rattle.axis.proofs.Machine.{lead-most, leads-fit, leads-back}
 use Rattle.grid.proofs.rect.RectEnds.all_nearer.Statement.{statement}
 use Rattle.grid.proofs.rect.RectEnds.all_nearer.Tie as tie
 

@@ -1,0 +1,4 @@
+pub mod Words
+pub mod Signs
+pub mod Axis
+pub mod Machine

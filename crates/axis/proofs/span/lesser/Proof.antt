@@ -1,0 +1,13 @@
+-- `axis::span::lesser` meets its contract: each arm returns the lesser. Assumes nothing.
+use native.Mathlib.Omega.{arith}
+use Rattle.axis.proofs.span.lesser.Statement.{statement}
+use Rattle.axis.proofs.span.lesser.Tie as tie
+
+returns : tie.Need-returns
+returns c = omega arith
+
+returns-2 : tie.Need-returns-2
+returns-2 c = omega arith
+
+pub lesser-spec : {M : Type 1} → statement M
+lesser-spec = tie.close (tie.spec returns returns-2)
