@@ -7,10 +7,10 @@ ghost use Rattle.axis.specs.Axis.{stepOnGrid};
 ghost use Rattle.axis.specs.Word.{stepsOf, wordOf, natOf, onGrid};
 
 // The false origin, in steps: the word 0. Every word has a place right of step 0.
-pub const ORIGIN: i64 = 2147483648;
+const ORIGIN: i64 = 2147483648;
 
 // The farthest that a coordinate on the grid lies from 0.
-pub const REACH: u64 = 1000000;
+const REACH: u64 = 1000000;
 
 // The steps of a word: how far it lies above the least word of all.
 pub fn steps(w: i32) -> u64

@@ -22,13 +22,13 @@ pub fn beyond(a: u64, b: u64) -> u64
     if b < a { a - b } else { 0 }
 }
 
-pub fn lesser(a: u64, b: u64) -> u64
+pub(crate) fn lesser(a: u64, b: u64) -> u64
     ensures { λ r. ⌜ r ≡ min a b ⌝ }
 {
     if a < b { a } else { b }
 }
 
-pub fn greater(a: u64, b: u64) -> u64
+pub(crate) fn greater(a: u64, b: u64) -> u64
     ensures { λ r. ⌜ r ≡ max a b ⌝ }
 {
     if a < b { b } else { a }
