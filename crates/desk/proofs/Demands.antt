@@ -1,7 +1,8 @@
 -- The mission's three demands. The first by the cases of what a call gives, the second by the walk's theorem, the third call by call. Assumes nothing.
-use Prim.Native.Nat.{ℕ}
-use mathlib.Core.Path.{_≡_, ap, _∙_}
-use mathlib.Core.Bool.{not}
+use Prim.Native.Nat.{ℕ, suc}
+use mathlib.Core.Path.{_≡_, refl, sym, ap, _∙_}
+use mathlib.Core.Logic.{_⊎_, inl, inr, ⊎-elim}
+use mathlib.Core.Bool.{Bool, true, false, cond, not}
 use mathlib.Core.List.{List, [], _∷_}
 use lib.Dec.{eqb}
 use lib.IntN.{ℤ}
@@ -11,16 +12,20 @@ use Rattle.axis.specs.Word.{natOf}
 use Rattle.grid.specs.Site.{Site}
 use Rattle.order.specs.Order.{Perm, pskip, ptrans}
 use Rattle.order.proofs.Perm.{prefl}
-use Rattle.table.specs.declared.given.Given.the-variants.{FewAnswers}
+use Rattle.order.specs.Lists.{All}
+use Rattle.table.specs.declared.given.Given.{Given}
+use Rattle.table.specs.declared.given.Given.the-variants.{Done, FewAnswers}
+use Rattle.table.specs.Given.{Line, numberGiven, firstOf}
+use Rattle.audit.specs.Check.{checkGives}
 use Rattle.table.specs.Words.{Words}
 use Rattle.table.specs.Stations.{Station, stations}
 use Rattle.joining.specs.Enrol.{enrolled}
 use Rattle.leaving.specs.Withdraw.{withdrawn}
-use Rattle.filter.specs.Query.{Record, countsOf, recordsFound, answersFound, laidOver}
+use Rattle.filter.specs.Query.{Record, Counts, countsOf, recordsFound, answersFound, laidOver}
 use Rattle.filter.proofs.Rising.{perm-filter}
-use Rattle.desk.specs.Refusals.{enrolGives, withdrawGives, queryGives}
+use Rattle.desk.specs.Refusals.{checkLines, enrolLines, enrolGives, withdrawLines, withdrawGives, queryLines, queryGives}
 use Rattle.desk.specs.Calls.{ifDone, ifFewAnswers, pointEntry, afterEnrol, afterWithdraw, afterQuery, zeroCounts, onlyN}
-use Rattle.desk.specs.Demands.{Passing, Demand1, Demand2, Call, enrol, withdraw, look, tableAfter, pointsAfter, pointsAfterAll, Demand3, AnyCalls}
+use Rattle.desk.specs.Demands.{Passing, First, Exactly, Demand1, Granted, Demand2, Call, enrol, withdraw, look, tableAfter, pointsAfter, pointsAfterAll, Demand3, AnyCalls}
 use Rattle.desk.proofs.Given.{if-refused, if-not-few, by-done}
 use Rattle.desk.proofs.Granted.{full-points}
 use Rattle.desk.proofs.Passing.{passing-points, passing-few, passing-nodes, passing-levels}
@@ -29,12 +34,66 @@ use Rattle.desk.proofs.Finds.{granted-answers}
 
 -- ---- demand 1
 
+-- a test holds or it does not
+by-test : {Q : Type 0} (b : Bool) → (b ≡ true → Q) → (b ≡ false → Q) → Q
+by-test true t f = t refl
+by-test false t f = f refl
+
+refused-only : (ls : List Line) (h : Given) → (h ≡ Done → ⊥) → firstOf ls ≡ h → First ls h
+refused-only [] h not0 e = not0 (sym e)
+refused-only (l ∷ ls) h not0 e =
+    by-test (l .holds)
+    (λ t. inl (t, sym (ap (λ b. cond b (l .gives) (firstOf ls)) t) ∙ e))
+    (λ f. inr (f, refused-only ls h not0 (sym (ap (λ b. cond b (l .gives) (firstOf ls)) f) ∙ e)))
+
+refused-then : (ls : List Line) (h : Given) → First ls h → firstOf ls ≡ h
+refused-then [] h f = absurd f
+refused-then (l ∷ ls) h f =
+    ⊎-elim
+    (λ a. ap (λ b. cond b (l .gives) (firstOf ls)) (a .0) ∙ a .1)
+    (λ a. ap (λ b. cond b (l .gives) (firstOf ls)) (a .0) ∙ refused-then ls h (a .1))
+    f
+
+-- no line gives 0
+abbrev Refusing : List Line → Type 0
+Refusing ls = All (λ l. l .gives ≡ Done → ⊥) ls
+
+done-only : (ls : List Line) → Refusing ls → firstOf ls ≡ Done → All (λ l. l .holds ≡ false) ls
+done-only [] r e = tt
+done-only (l ∷ ls) r e =
+    by-test (l .holds)
+    (λ t. absurd (r .0 (sym (ap (λ b. cond b (l .gives) (firstOf ls)) t) ∙ e)))
+    (λ f. (f, done-only ls (r .1) (sym (ap (λ b. cond b (l .gives) (firstOf ls)) f) ∙ e)))
+
+done-then : (ls : List Line) → All (λ l. l .holds ≡ false) ls → firstOf ls ≡ Done
+done-then [] a = refl
+done-then (l ∷ ls) a = ap (λ b. cond b (l .gives) (firstOf ls)) (a .0) ∙ done-then ls (a .1)
+
+exactly : (ls : List Line) → Refusing ls → Exactly ls (firstOf ls)
+exactly ls r = record {
+  refusedOnly = refused-only ls;
+  refusedThen = λ h not0 f. refused-then ls h f;
+  doneOnly = done-only ls r;
+  doneThen = done-then ls;
+}
+
+-- the number of a refusal is not 0
+nonzero : {g : Given} {n : ℕ} → numberGiven g ≡ suc n → g ≡ Done → ⊥
+nonzero {g} {n} e d =
+    let z : 0 ≡ suc n = sym (ap numberGiven d) ∙ e in
+    absurd (omega arith)
+
 pub demand1 : Demand1
-unfolding afterEnrol afterWithdraw afterQuery
+unfolding checkGives enrolGives withdrawGives queryGives afterEnrol afterWithdraw afterQuery
 demand1 = record {
-  enrol = λ ws n p no. if-refused (enrolGives ws n p) no (enrolled ws (pointEntry n p)) ws;
-  withdraw = λ ws n no. if-refused (withdrawGives ws n) no (withdrawn ws (natOf n)) ws;
-  query = λ ws q k cs out no more.
+  check = λ ws. exactly (checkLines ws) (nonzero refl, (nonzero refl, tt));
+  enrol = λ ws n p. exactly (enrolLines ws n p) (nonzero refl, (nonzero refl, (nonzero refl, (nonzero refl, (nonzero refl, (nonzero refl, tt))))));
+  withdraw = λ ws n. exactly (withdrawLines ws n) (nonzero refl, (nonzero refl, (nonzero refl, (nonzero refl, tt))));
+  query = λ ws q k cs out.
+      exactly (queryLines ws q k (length cs) (length out)) (nonzero refl, (nonzero refl, (nonzero refl, (nonzero refl, (nonzero refl, (nonzero refl, tt))))));
+  enrolRefused = λ ws n p no. if-refused (enrolGives ws n p) no (enrolled ws (pointEntry n p)) ws;
+  withdrawRefused = λ ws n no. if-refused (withdrawGives ws n) no (withdrawn ws (natOf n)) ws;
+  queryRefused = λ ws q k cs out no more.
       let g = queryGives ws q k (length cs) (length out) in
       let counts = countsOf ws q (natOf k) in
       let records = laidOver (recordsFound ws q (natOf k)) cs in (
@@ -54,7 +113,20 @@ demand1 = record {
 -- ---- demand 2
 
 pub demand2 : Demand2
-demand2 ws q k room places done words = granted-answers ws words q k room places done
+unfolding afterQuery
+demand2 ws words q k cs out done =
+    let counts = countsOf ws q (natOf k) in
+    let records = laidOver (recordsFound ws q (natOf k)) cs in
+    let few : (g : Given) → Counts = λ g. ifFewAnswers g (onlyN counts) zeroCounts in
+    let found-is = granted-answers ws words q k (length cs) (length out) done in
+    let c = ap (λ g. ifDone g counts (few g)) done in
+    record {
+      answers = ap (λ g. ifDone g (laidOver (answersFound ws q (natOf k)) out) out) done ∙ ap (λ a. laidOver a out) found-is;
+      n = ap (λ (x : Counts). x .n) c ∙ ap length found-is;
+      candidates = ap (λ g. ifDone g records (ifFewAnswers g records cs)) done;
+      m = ap (λ (x : Counts). x .m) c;
+      o = ap (λ (x : Counts). x .o) c;
+    }
 
 -- ---- demand 3
 

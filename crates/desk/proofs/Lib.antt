@@ -10,3 +10,4 @@ pub mod CallOrder
 pub mod CallQuery
 pub mod CallList
 pub mod CallAlone
+pub mod Once

@@ -2,7 +2,8 @@
 use Prim.Native.Nat.{ℕ, _≤_, _<_}
 use mathlib.Core.Path.{_≡_}
 use mathlib.Core.Bool.{Bool, true, false, not}
-use mathlib.Core.List.{List, [], _∷_}
+use mathlib.Core.List.{List, [], _∷_, map}
+use mathlib.Core.Logic.{_⊎_}
 use lib.Dec.{eqb}
 use lib.IntN.{ℤ}
 use lib.ListN.{length}
@@ -12,14 +13,16 @@ use Rattle.order.specs.Order.{Perm}
 use Rattle.order.specs.Lists.{count, filter, All}
 use Rattle.table.specs.declared.given.Given.{Given}
 use Rattle.table.specs.declared.given.Given.the-variants.{Done, Full, FewAnswers}
+use Rattle.table.specs.Given.{Line}
 use Rattle.table.specs.Figures.{MOST, SLOTS, LENGTH}
 use Rattle.table.specs.Words.{Words}
 use Rattle.table.specs.Slots.{slots, isFree, levelAt}
 use Rattle.table.specs.Stations.{Station, stations}
 use Rattle.audit.specs.Rules.{wellFormed}
 use Rattle.filter.specs.Meaning.{answer}
-use Rattle.filter.specs.Query.{Record, recordsFound, answersFound, countsOf, laidOver}
-use Rattle.desk.specs.Refusals.{enrolGives, withdrawGives, queryGives}
+use Rattle.audit.specs.Check.{checkGives}
+use Rattle.filter.specs.Query.{Record, found, recordOf, recordsFound, countsOf, laidOver}
+use Rattle.desk.specs.Refusals.{checkLines, enrolLines, enrolGives, withdrawLines, withdrawGives, queryLines}
 use Rattle.desk.specs.Calls.{ifDone, afterEnrol, afterWithdraw, Queried, afterQuery, zeroCounts, onlyN}
 
 -- a lent table that the check passes
@@ -28,26 +31,55 @@ pub record Passing (ws : Words) : Type 0 where
   pub words : All IsWord ws
   pub rules : wellFormed ws ≡ true
 
--- ---- demand 1: a refusal changes nothing, but for 10 of the query
+-- ---- demand 1: every call gives the number of the first line of 01 that holds, and a refusal changes nothing, but for 10 of the query
+
+-- a line with this answer holds, and no earlier line does
+abbrev pub First : List Line → Given → Type 0
+First [] g = ⊥
+First (l ∷ ls) g = ((l .holds ≡ true) × (l .gives ≡ g)) ⊎ ((l .holds ≡ false) × First ls g)
+
+-- a refusal is given exactly when its line holds and no earlier one does, and 0 exactly when none holds
+pub record Exactly (ls : List Line) (g : Given) : Type 0 where
+  pub refusedOnly : (h : Given) → (h ≡ Done → ⊥) → g ≡ h → First ls h
+  pub refusedThen : (h : Given) → (h ≡ Done → ⊥) → First ls h → g ≡ h
+  pub doneOnly : g ≡ Done → All (λ l. l .holds ≡ false) ls
+  pub doneThen : All (λ l. l .holds ≡ false) ls → g ≡ Done
 
 pub record Demand1 : Type 0 where
-  pub enrol : (ws : Words) (n : ℤ) (p : Site) → (enrolGives ws n p ≡ Done → ⊥) → afterEnrol ws n p ≡ ws
-  pub withdraw : (ws : Words) (n : ℤ) → (withdrawGives ws n ≡ Done → ⊥) → afterWithdraw ws n ≡ ws
-  -- zero counts, and both lists as they were
+  -- the number that each call gives
+  pub check : (ws : Words) → Exactly (checkLines ws) (checkGives ws)
+  pub enrol : (ws : Words) (n : ℤ) (p : Site) → Exactly (enrolLines ws n p) (enrolGives ws n p)
+  pub withdraw : (ws : Words) (n : ℤ) → Exactly (withdrawLines ws n) (withdrawGives ws n)
   pub query : (ws : Words) (q : Site) (k : ℤ) (cs : List Record) (out : List ℕ)
+      → Exactly (queryLines ws q k (length cs) (length out)) (afterQuery ws q k cs out .given)
+  -- a refused enrolment or withdrawal leaves the table as it was
+  pub enrolRefused : (ws : Words) (n : ℤ) (p : Site) → (enrolGives ws n p ≡ Done → ⊥) → afterEnrol ws n p ≡ ws
+  pub withdrawRefused : (ws : Words) (n : ℤ) → (withdrawGives ws n ≡ Done → ⊥) → afterWithdraw ws n ≡ ws
+  -- a refused query: zero counts, and both lists as they were
+  pub queryRefused : (ws : Words) (q : Site) (k : ℤ) (cs : List Record) (out : List ℕ)
       → (afterQuery ws q k cs out .given ≡ Done → ⊥) → (afterQuery ws q k cs out .given ≡ FewAnswers → ⊥)
       → (afterQuery ws q k cs out .counts ≡ zeroCounts) × (afterQuery ws q k cs out .candidates ≡ cs) × (afterQuery ws q k cs out .answers ≡ out)
-  -- 10 gives n, leaves the candidate list as a success would, and the answer list as it was
+  -- but for 10: it gives n, leaves the candidate list as a success would, and the answer list as it was
   pub short : (ws : Words) (q : Site) (k : ℤ) (cs : List Record) (out : List ℕ) → afterQuery ws q k cs out .given ≡ FewAnswers
       → (afterQuery ws q k cs out .counts ≡ onlyN (countsOf ws q (natOf k)))
       × (afterQuery ws q k cs out .candidates ≡ laidOver (recordsFound ws q (natOf k)) cs)
       × (afterQuery ws q k cs out .answers ≡ out)
 
--- ---- demand 2: a granted query lists, rising, exactly the stations that have fewer than k others nearer than the place
+-- ---- demand 2: a granted query lists, rising, exactly the stations that have fewer than k others nearer than the place; its candidates and its count
+-- of opened nodes are those of 01's filter walk
+
+pub record Granted (ws : Words) (q : Site) (k : ℕ) (cs : List Record) (out : List ℕ) (r : Queried) : Type 0 where
+  -- the answers, by the meaning alone: no tree and no walk
+  pub answers : r .answers ≡ laidOver (answer (stations ws) q k) out
+  pub n : r .counts .n ≡ length (answer (stations ws) q k)
+  -- the walk's candidates, as records in the order found, and the nodes that it opened
+  pub candidates : r .candidates ≡ laidOver (map (recordOf q) (found ws q k .candidates)) cs
+  pub m : r .counts .m ≡ length (found ws q k .candidates)
+  pub o : r .counts .o ≡ found ws q k .opened
 
 abbrev pub Demand2 : Type 0
-Demand2 = (ws : Words) (q : Site) (k : ℤ) (room places : ℕ) → queryGives ws q k room places ≡ Done
-    → All IsWord ws → answersFound ws q (natOf k) ≡ answer (stations ws) q (natOf k)
+Demand2 = (ws : Words) → All IsWord ws → (q : Site) (k : ℤ) (cs : List Record) (out : List ℕ)
+    → afterQuery ws q k cs out .given ≡ Done → Granted ws q (natOf k) cs out (afterQuery ws q k cs out)
 
 -- ---- demand 3: what the table is and holds after any calls
 

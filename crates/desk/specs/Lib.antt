@@ -3,3 +3,4 @@ pub mod Calls
 pub mod Demands
 pub mod Lent
 pub mod Alone
+pub mod Sharp

@@ -11,7 +11,7 @@ use Rattle.order.specs.Lists.{has}
 use Rattle.table.specs.Figures.{MOST, HIGHEST}
 use Rattle.table.specs.Words.{Words, pointsOf, between}
 use Rattle.table.specs.Stations.{Station, stations}
-use Rattle.table.specs.Given.{line, firstOf}
+use Rattle.table.specs.Given.{Line, line, firstOf}
 use Rattle.audit.specs.Check.{wrongLength, malformed}
 use Rattle.filter.specs.Query.{answersFound}
 use Rattle.table.specs.declared.given.Given.{Given}
@@ -59,36 +59,46 @@ isFull ws = leb MOST (pointsOf ws)
 
 -- ---- the order
 
+-- table check 1, 2
+abbrev pub checkLines : Words → List Line
+checkLines ws = line (wrongLength ws) WrongLength ∷ line (malformed ws) NotWellFormed ∷ []
+
 -- enrol checks 1, 2, 3, 4, 6, 7
-unfoldable pub enrolGives : Words → ℤ → Site → Given
-enrolGives ws n p =
-    firstOf
-    (line (wrongLength ws) WrongLength
+abbrev pub enrolLines : Words → ℤ → Site → List Line
+enrolLines ws n p =
+    line (wrongLength ws) WrongLength
     ∷ line (malformed ws) NotWellFormed
     ∷ line (noSuchNumber n) NoSuchNumber
     ∷ line (offGrid p) OffGrid
     ∷ line (isEnrolled ws n) AlreadyEnrolled
     ∷ line (isFull ws) Full
-    ∷ [])
+    ∷ []
+
+unfoldable pub enrolGives : Words → ℤ → Site → Given
+enrolGives ws n p = firstOf (enrolLines ws n p)
 
 -- withdraw 1, 2, 3, 8
-unfoldable pub withdrawGives : Words → ℤ → Given
-withdrawGives ws n =
-    firstOf
-    (line (wrongLength ws) WrongLength
+abbrev pub withdrawLines : Words → ℤ → List Line
+withdrawLines ws n =
+    line (wrongLength ws) WrongLength
     ∷ line (malformed ws) NotWellFormed
     ∷ line (noSuchNumber n) NoSuchNumber
     ∷ line (not (isEnrolled ws n)) NotEnrolled
-    ∷ [])
+    ∷ []
+
+unfoldable pub withdrawGives : Words → ℤ → Given
+withdrawGives ws n = firstOf (withdrawLines ws n)
 
 -- query 1, 2, 4, 5, 9, 10, with room for so many candidates and so many answers
-unfoldable pub queryGives : Words → Site → ℤ → ℕ → ℕ → Given
-queryGives ws q k candidates answers =
-    firstOf
-    (line (wrongLength ws) WrongLength
+abbrev pub queryLines : Words → Site → ℤ → ℕ → ℕ → List Line
+queryLines ws q k candidates answers =
+    line (wrongLength ws) WrongLength
     ∷ line (malformed ws) NotWellFormed
     ∷ line (offGrid q) OffGrid
     ∷ line (noSuchK k) NoSuchK
     ∷ line (ltb candidates (pointsOf ws)) FewCandidates
     ∷ line (ltb answers (length (answersFound ws q (natOf k)))) FewAnswers
-    ∷ [])
+    ∷ []
+
+unfoldable pub queryGives : Words → Site → ℤ → ℕ → ℕ → Given
+queryGives ws q k candidates answers = firstOf (queryLines ws q k candidates answers)
