@@ -15,7 +15,7 @@ use Rattle.order.proofs.Order.{sort-perm, sort-length}
 use Rattle.table.specs.declared.given.Given.the-variants.{Done}
 use Rattle.table.specs.Figures.{MOST, HIGHEST}
 use Rattle.table.specs.Words.{Words, pointsOf}
-use Rattle.table.specs.Stations.{Station, stations, isPoint}
+use Rattle.table.specs.Stations.{Station, stations, isPoint, stationOfEntry}
 use Rattle.table.specs.Given.{firstOf}
 use Rattle.table.specs.Empty.{emptyTable}
 use Rattle.audit.proofs.Joined.{all-map, all-then}
@@ -24,7 +24,7 @@ use Rattle.audit.proofs.Reading.{Point, point, held-points}
 use Rattle.audit.proofs.WellFormed.{empty-is-empty}
 use Rattle.filter.specs.Meaning.{answersTo, rising, answer}
 use Rattle.filter.specs.Walk.{Found}
-use Rattle.filter.specs.Query.{Record, recordOf, stationIn, found, recordsFound, answersFound, laidOver}
+use Rattle.filter.specs.Query.{Record, recordOf, found, recordsFound, answersFound, laidOver}
 use Rattle.filter.proofs.Answers.{answers-right, candidates-few, candidates-points, opened-few, found-empty, answers-empty, answer-empty}
 use Rattle.filter.proofs.Meaning.{count-most, few-all-answer, answering-in, here-answers}
 use Rattle.desk.specs.Refusals.{numbersOf, queryGives}
@@ -67,7 +67,7 @@ module _ (q : Site) (g : SiteOnGrid q) (k : ℕ) where
   pub answers-few : {ws : Words} → Passing ws → length (answersFound ws q k) ≤ pointsOf ws
   unfolding answersFound rising
   answers-few {ws} p =
-      let cs = map stationIn (found ws q k .candidates) in
+      let cs = map stationOfEntry (found ws q k .candidates) in
       let A = answersTo (stations ws) q k in
       omega (
         arith,
@@ -75,7 +75,7 @@ module _ (q : Site) (g : SiteOnGrid q) (k : ℕ) where
         length-map (filter A cs) (λ (s : Station). s .number),
         length-filter A cs,
         count-most A cs,
-        length-map (found ws q k .candidates) stationIn,
+        length-map (found ws q k .candidates) stationOfEntry,
         passing-finds p .few,
       )
 
@@ -84,10 +84,10 @@ module _ (q : Site) (g : SiteOnGrid q) (k : ℕ) where
   unfolding answersFound rising
   answers-numbers {ws} p =
       let es = found ws q k .candidates in
-      let cs = map stationIn es in
+      let cs = map stationOfEntry es in
       let A = answersTo (stations ws) q k in
       let W : Station → Type 0 = λ s. Within 1 HIGHEST (s .number) in
-      let all : All W cs = all-map W stationIn es
+      let all : All W cs = all-map W stationOfEntry es
       (all-mem (λ e. Within 1 HIGHEST (e .reference)) es
       (λ e m. let t = mem-all Point es (passing-finds p .points) m in record { least = t .least; most = t .most })) in
       all-perm (Within 1 HIGHEST) (sort-perm (λ n. n) (map (λ (s : Station). s .number) (filter A cs)))

@@ -22,13 +22,13 @@ use Rattle.table.specs.declared.node.Entry.{Entry}
 use Rattle.table.specs.Words.{Words, word, isMinusOne, pointsOf, partAt}
 use Rattle.table.specs.Page.{pageOf}
 use Rattle.table.specs.Slots.{slots, isFree, pageAt}
-use Rattle.table.specs.Stations.{Station, stationsAt, stations, isPoint}
+use Rattle.table.specs.Stations.{Station, stationsAt, stations, isPoint, stationOfEntry}
 use Rattle.table.specs.Figures.{LENGTH}
 use Rattle.audit.specs.Rules.{isEmpty, wellFormed}
 use Rattle.table.specs.Tree.{Tree, topOf, slotsOf, leavesOf, Sound, Holds}
 use Rattle.filter.specs.Meaning.{nearerOther, answersTo, rising, answer}
 use Rattle.filter.specs.Walk.{Found, spotIn, walk}
-use Rattle.filter.specs.Query.{nothing, found, stationIn, answersFound}
+use Rattle.filter.specs.Query.{nothing, found, answersFound}
 use Rattle.filter.proofs.Rising.{filter-append, filter-none, perm-filter, rising-same}
 use Rattle.filter.proofs.Steps.{Hidden, Step, step-few, step-all, step-walk}
 use Rattle.audit.proofs.Tests.{and-left, and-right, by-test}
@@ -40,7 +40,7 @@ use Rattle.audit.proofs.WellFormed.{well-formed-tree}
 -- ---- a leaf's entry as a station
 
 -- its place in steps is that of its station
-point-site : (e : Entry) → Point e → SiteWords (stationIn e .site) × (placeOf (stationIn e .site) ≡ spotIn e)
+point-site : (e : Entry) → Point e → SiteWords (stationOfEntry e .site) × (placeOf (stationOfEntry e .site) ≡ spotIn e)
 point-site e p =
     let bx : e .rect .x .low < 2 ^ 32 = omega (arith, p .x .grid) in
     let by : e .rect .y .low < 2 ^ 32 = omega (arith, p .y .grid) in
@@ -48,7 +48,7 @@ point-site e p =
 
 -- nearer in steps is nearer on the ground
 pub nearer-site : (q : Site) → SiteOnGrid q → (c e : Entry) → Point c → Point e
-    → nearerTo (spotIn e) (spotIn c) (placeOf q) ≡ nearer (distance² (stationIn c .site) (stationIn e .site)) (distance² q (stationIn e .site))
+    → nearerTo (spotIn e) (spotIn c) (placeOf q) ≡ nearer (distance² (stationOfEntry c .site) (stationOfEntry e .site)) (distance² q (stationOfEntry e .site))
 unfolding nearerTo
 nearer-site q g c e pc pe =
     let sc = point-site c pc in
@@ -72,60 +72,60 @@ numberOf e = e .reference
 module _ (q : Site) (g : SiteOnGrid q) (k : ℕ) where
   -- candidates of other numbers that are nearer in steps are nearer others
   other-nearer : (c e : Entry) → Point c → Point e → (c .reference ≡ e .reference → ⊥)
-      → nearerTo (spotIn e) (spotIn c) (placeOf q) ≡ true → nearerOther q (stationIn e) (stationIn c) ≡ true
+      → nearerTo (spotIn e) (spotIn c) (placeOf q) ≡ true → nearerOther q (stationOfEntry e) (stationOfEntry c) ≡ true
   unfolding nearerOther
   other-nearer c e pc pe ne h = rw (ne-eqb (c .reference) (e .reference) ne) (sym (nearer-site q g c e pc pe) ∙ h)
 
-  hidden-out : (all : List Station) (b rest : List Entry) → Perm all (map stationIn (b ++ rest)) → All Point (b ++ rest)
+  hidden-out : (all : List Station) (b rest : List Entry) → Perm all (map stationOfEntry (b ++ rest)) → All Point (b ++ rest)
       → NoDup (map numberOf (b ++ rest)) → (e : Entry) → Mem e rest → Hidden (placeOf q) k b e
-      → answersTo all q k (stationIn e) ≡ false
+      → answersTo all q k (stationOfEntry e) ≡ false
   unfolding answersTo
   hidden-out all b rest p ps d e m h =
-      let near = nearerOther q (stationIn e) in
+      let near = nearerOther q (stationOfEntry e) in
       let pe : Point e = mem-all Point (b ++ rest) ps (Memᴰ·append-right b m) in
       let apart : (c : Entry) → Mem c b → c .reference ≡ e .reference → ⊥ = λ c mc s.
       nodup-apart (map numberOf b) (map numberOf rest) (rw (map-append numberOf b rest) at d) (Memᴰ·map numberOf mc) (Memᴰ·cast s (Memᴰ·map numberOf m)) in
-      let least : count (λ c. nearerTo (spotIn e) (spotIn c) (placeOf q)) b ≤ count near (map stationIn b) =
-      count-into (λ c. nearerTo (spotIn e) (spotIn c) (placeOf q)) near stationIn b
-      (all-mem (λ c. nearerTo (spotIn e) (spotIn c) (placeOf q) ≡ true → near (stationIn c) ≡ true) b
+      let least : count (λ c. nearerTo (spotIn e) (spotIn c) (placeOf q)) b ≤ count near (map stationOfEntry b) =
+      count-into (λ c. nearerTo (spotIn e) (spotIn c) (placeOf q)) near stationOfEntry b
+      (all-mem (λ c. nearerTo (spotIn e) (spotIn c) (placeOf q) ≡ true → near (stationOfEntry c) ≡ true) b
       (λ c mc. other-nearer c e (mem-all Point (b ++ rest) ps (Memᴰ·append-left rest mc)) pe (apart c mc))) in
-      le-ltb (count near all) k (omega (arith, perm-count p near, ap (count near) (map-append stationIn b rest), count-append near (map stationIn b) (map stationIn rest)))
+      le-ltb (count near all) k (omega (arith, perm-count p near, ap (count near) (map-append stationOfEntry b rest), count-append near (map stationOfEntry b) (map stationOfEntry rest)))
 
 -- ---- a walk from nothing over all points
 
 module _ (q : Site) (g : SiteOnGrid q) (k : ℕ) (all : List Station) (S : List Entry) (T : List ℕ) (b : Found)
-    (f : Step (placeOf q) k S T nothing b) (flat : Perm all (map stationIn S)) (ps : All Point S) (d : NoDup (map numberOf S)) where
+    (f : Step (placeOf q) k S T nothing b) (flat : Perm all (map stationOfEntry S)) (ps : All Point S) (d : NoDup (map numberOf S)) where
   -- the candidates, and behind them the points that are none
   split-found : Perm (b .candidates ++ f .rest) S
   split-found = rw (f .grown) (f .split)
 
   -- the stations are those of the candidates, and behind them those of the others
-  flat-found : Perm all (map stationIn (b .candidates ++ f .rest))
-  flat-found = ptrans flat (perm-map stationIn (psym split-found))
+  flat-found : Perm all (map stationOfEntry (b .candidates ++ f .rest))
+  flat-found = ptrans flat (perm-map stationOfEntry (psym split-found))
 
-  others-out : filter (answersTo all q k) (map stationIn (f .rest)) ≡ []
+  others-out : filter (answersTo all q k) (map stationOfEntry (f .rest)) ≡ []
   others-out =
       let P : Station → Type 0 = λ p. answersTo all q k p ≡ false in
-      filter-none (answersTo all q k) (map stationIn (f .rest))
-      (all-mem P (map stationIn (f .rest))
-      (λ p m. let o = Memᴰ·of-map stationIn (f .rest) m in
+      filter-none (answersTo all q k) (map stationOfEntry (f .rest))
+      (all-mem P (map stationOfEntry (f .rest))
+      (λ p m. let o = Memᴰ·of-map stationOfEntry (f .rest) m in
       subst P (o .2)
       (hidden-out q g k all (b .candidates) (f .rest) flat-found
       (all-perm Point split-found ps)
       (perm-nodup (perm-map numberOf (psym split-found)) d)
       (o .0) (o .1) (mem-all (Hidden (placeOf q) k (b .candidates)) (f .rest) (f .hidden) (o .1)))))
 
-  kept : Perm (filter (answersTo all q k) all) (filter (answersTo all q k) (map stationIn (b .candidates)))
+  kept : Perm (filter (answersTo all q k) all) (filter (answersTo all q k) (map stationOfEntry (b .candidates)))
   kept =
       let A = answersTo all q k in
       subst (λ l. Perm (filter A all) l)
-      (ap (filter A) (map-append stationIn (b .candidates) (f .rest))
-      ∙ filter-append A (map stationIn (b .candidates)) (map stationIn (f .rest))
-      ∙ ap (λ l. filter A (map stationIn (b .candidates)) ++ l) others-out
-      ∙ append-nil (filter A (map stationIn (b .candidates))))
+      (ap (filter A) (map-append stationOfEntry (b .candidates) (f .rest))
+      ∙ filter-append A (map stationOfEntry (b .candidates)) (map stationOfEntry (f .rest))
+      ∙ ap (λ l. filter A (map stationOfEntry (b .candidates)) ++ l) others-out
+      ∙ append-nil (filter A (map stationOfEntry (b .candidates))))
       (perm-filter A flat-found)
 
-  pub answers-all : rising (map (λ p. p .number) (filter (answersTo all q k) (map stationIn (b .candidates)))) ≡ answer all q k
+  pub answers-all : rising (map (λ p. p .number) (filter (answersTo all q k) (map stationOfEntry (b .candidates)))) ≡ answer all q k
   unfolding answer
   answers-all = rising-same (perm-map (λ (p : Station). p .number) (psym kept))
 

@@ -30,7 +30,6 @@ use Rattle.audit.proofs.Enrolled.{stations-length, stations-leaves}
 use Rattle.audit.proofs.Reading.{Point, point}
 use Rattle.filter.specs.Meaning.{nearerOther, answersTo}
 use Rattle.filter.specs.Walk.{spotIn}
-use Rattle.filter.specs.Query.{stationIn}
 use Rattle.filter.specs.Test.{otherNearer, passes, below}
 use Rattle.filter.proofs.Meaning.{count-most}
 use Rattle.filter.proofs.Rows.{count-map}
@@ -74,7 +73,7 @@ count-same P Q (x ∷ xs) h = omega (arith, ap one (h .0), count-same P Q xs (h 
 
 -- of two points
 other-same : (q : Site) → SiteOnGrid q → (c e : Entry) → Point c → Point e
-    → otherNearer (e .reference) (spotIn e) (dist² (placeOf q) (spotIn e)) c ≡ nearerOther q (stationIn e) (stationIn c)
+    → otherNearer (e .reference) (spotIn e) (dist² (placeOf q) (spotIn e)) c ≡ nearerOther q (stationOfEntry e) (stationOfEntry c)
 unfolding otherNearer nearerOther nearerTo
 other-same q g c e pc pe = ap (λ b. not (eqb (c .reference) (e .reference)) && b) (nearer-site q g c e pc pe)
 
@@ -89,13 +88,13 @@ module _ (ws : Words) (long : length ws ≡ LENGTH) (fits : All IsWord ws) (w : 
       (up-all (λ s. All (λ e. isPoint e ≡ true) (leafEntries ws s)) 0 SLOTS (λ s l u. leaf-points s u)))
 
   pub passes-answers : (q : Site) → SiteOnGrid q → (k : ℕ) (e : Entry) → isPoint e ≡ true
-      → passes ws (e .reference) (spotIn e) (dist² (placeOf q) (spotIn e)) k ≡ answersTo (stations ws) q k (stationIn e)
+      → passes ws (e .reference) (spotIn e) (dist² (placeOf q) (spotIn e)) k ≡ answersTo (stations ws) q k (stationOfEntry e)
   unfolding passes answersTo
   passes-answers q g k e pe =
       let L = join (leafEntries ws) slots in
-      let near = nearerOther q (stationIn e) in
+      let near = nearerOther q (stationOfEntry e) in
       ap (λ (n : ℕ). ltb n k)
-      (count-same (otherNearer (e .reference) (spotIn e) (dist² (placeOf q) (spotIn e))) (λ c. near (stationIn c)) L
-      (all-then Point (λ c. otherNearer (e .reference) (spotIn e) (dist² (placeOf q) (spotIn e)) c ≡ near (stationIn c)) (λ c pc. other-same q g c e pc (point e pe)) L all-points)
+      (count-same (otherNearer (e .reference) (spotIn e) (dist² (placeOf q) (spotIn e))) (λ c. near (stationOfEntry c)) L
+      (all-then Point (λ c. otherNearer (e .reference) (spotIn e) (dist² (placeOf q) (spotIn e)) c ≡ near (stationOfEntry c)) (λ c pc. other-same q g c e pc (point e pe)) L all-points)
       ∙ sym (count-map near stationOfEntry L)
       ∙ ap (count near) (sym (stations-leaves ws (λ s h. part-fits ws fits s))))

@@ -11,7 +11,7 @@ use Rattle.order.specs.Lists.{filter}
 use Rattle.table.specs.declared.node.Entry.{Entry}
 use Rattle.table.specs.Words.{Words, rootOf}
 use Rattle.table.specs.Slots.{levelAt}
-use Rattle.table.specs.Stations.{Station, stations}
+use Rattle.table.specs.Stations.{stations, stationOfEntry}
 use Rattle.audit.specs.Rules.{isEmpty}
 use Rattle.filter.specs.Meaning.{answersTo, rising}
 use Rattle.filter.specs.Walk.{Found, spotIn, walk}
@@ -38,10 +38,6 @@ recordOf q e = record {
   square = dist² (placeOf q) (spotIn e);
 }
 
--- the station that a candidate is
-abbrev pub stationIn : Entry → Station
-stationIn e = record { number = e .reference; site = record { x = wordOf (e .rect .x .low); y = wordOf (e .rect .y .low) } }
-
 -- the candidates in the order found
 abbrev pub recordsFound : Words → Site → ℕ → List Record
 recordsFound ws q k = map (recordOf q) (found ws q k .candidates)
@@ -49,7 +45,7 @@ recordsFound ws q k = map (recordOf q) (found ws q k .candidates)
 -- then each candidate is tested by the meaning against the whole table; the numbers in rising order
 unfoldable pub answersFound : Words → Site → ℕ → List ℕ
 answersFound ws q k =
-    rising (map (λ p. p .number) (filter (answersTo (stations ws) q k) (map stationIn (found ws q k .candidates))))
+    rising (map (λ p. p .number) (filter (answersTo (stations ws) q k) (map stationOfEntry (found ws q k .candidates))))
 
 -- n answers, m candidates, o nodes opened
 pub record Counts : Type 0 where

@@ -24,7 +24,7 @@ use Rattle.table.specs.Figures.{MOST}
 use Rattle.table.specs.Words.{Words, word, isMinusOne, pointsOf}
 use Rattle.table.specs.Page.{blankEntry}
 use Rattle.table.specs.Slots.{slots, isFree}
-use Rattle.table.specs.Stations.{stations, isPoint}
+use Rattle.table.specs.Stations.{stations, isPoint, stationOfEntry}
 use Rattle.audit.specs.Rules.{isEmpty}
 use Rattle.table.proofs.Nodes.{entry-ext}
 use Rattle.audit.proofs.Tests.{by-test, and-left, and-right}
@@ -34,7 +34,7 @@ use Rattle.audit.proofs.WellFormed.{well-formed-tree}
 use Rattle.filter.specs.declared.seen.Seen.{Seen}
 use Rattle.filter.specs.Meaning.{answersTo, rising}
 use Rattle.filter.specs.Walk.{spotIn}
-use Rattle.filter.specs.Query.{found, stationIn, recordsFound, answersFound, laidOver}
+use Rattle.filter.specs.Query.{found, recordsFound, answersFound, laidOver}
 use Rattle.filter.specs.Rows.{Rows, laidIn, Room, Noted}
 use Rattle.filter.specs.Test.{passes}
 use Rattle.filter.proofs.Answers.{found-points, found-few}
@@ -112,7 +112,7 @@ module _ {ws : Words} (t : Checked ws) where
         entry-ext refl
         (ap spotOf (place-ext (steps-word (e .rect .x .low) (omega (arith, p .x .grid))) (steps-word (e .rect .y .low) (omega (arith, p .y .grid)))) ∙ sym (point-spot p))
 
-    pass-as : (e : Entry) → isPoint e ≡ true → passesAs ws k (candidateOf q e) ≡ answersTo (stations ws) q k (stationIn e)
+    pass-as : (e : Entry) → isPoint e ≡ true → passesAs ws k (candidateOf q e) ≡ answersTo (stations ws) q k (stationOfEntry e)
     unfolding passesAs
     pass-as e h =
         ap (λ (d : Entry). passes ws (d .reference) (spotIn d) (dist² (placeOf q) (spotIn e)) k) (entry-back e h)
@@ -127,10 +127,10 @@ module _ {ws : Words} (t : Checked ws) where
         ap (λ l. rising (map (λ c. natOf (c .number)) l)) (filter-map (passesAs ws k) (candidateOf q) cs)
         ∙ ap rising (map-map (λ c. natOf (c .number)) (candidateOf q) (filter (λ e. passesAs ws k (candidateOf q e)) cs))
         ∙ ap (λ l. rising (map (λ e. e .reference) l))
-        (filter-same (λ e. passesAs ws k (candidateOf q e)) (λ e. A (stationIn e)) cs
-        (all-then (λ e. isPoint e ≡ true) (λ e. passesAs ws k (candidateOf q e) ≡ A (stationIn e)) pass-as cs points))
-        ∙ ap rising (sym (map-map (λ p. p .number) stationIn (filter (λ e. A (stationIn e)) cs)))
-        ∙ ap (λ l. rising (map (λ p. p .number) l)) (sym (filter-map A stationIn cs))
+        (filter-same (λ e. passesAs ws k (candidateOf q e)) (λ e. A (stationOfEntry e)) cs
+        (all-then (λ e. isPoint e ≡ true) (λ e. passesAs ws k (candidateOf q e) ≡ A (stationOfEntry e)) pass-as cs points))
+        ∙ ap rising (sym (map-map (λ p. p .number) stationOfEntry (filter (λ e. A (stationOfEntry e)) cs)))
+        ∙ ap (λ l. rising (map (λ p. p .number) l)) (sym (filter-map A stationOfEntry cs))
 
     module _ {before list : List Candidate} {s : Seen} (f : Filled ws q k before list s) (room : pointsOf ws ≤ length before) where
       many : length (candidatesFound ws q k) ≡ s .candidates

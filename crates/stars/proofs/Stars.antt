@@ -16,7 +16,7 @@ use Rattle.table.specs.declared.node.Entry.{Entry}
 use Rattle.table.specs.Words.{Words, rootOf, partAt, placed}
 use Rattle.table.specs.Page.{page, entryOf, pageOf, entryWords, entriesWords, pageWords, freeWords, coverOf}
 use Rattle.table.specs.Slots.{isFree, pageAt, putPage, lowestFree, entryFor}
-use Rattle.table.specs.Stations.{Station, stations}
+use Rattle.table.specs.Stations.{Station, stations, stationOfEntry}
 use Rattle.audit.specs.Rules.{isEmpty}
 use Rattle.table.specs.Empty.{emptyTable, freeSlots}
 use Rattle.change.specs.Choose.{takesBefore, chosen}
@@ -24,7 +24,7 @@ use Rattle.change.specs.Share.{lined, firstShare, otherShare}
 use Rattle.joining.specs.Enrol.{settled, enrolled}
 use Rattle.filter.specs.Meaning.{nearerOther, answersTo, rising, answer}
 use Rattle.filter.specs.Walk.{Found, nearestFirst, pointHidden, boxHidden}
-use Rattle.filter.specs.Query.{stationIn, found, answersFound}
+use Rattle.filter.specs.Query.{found, answersFound}
 use Rattle.desk.specs.Refusals.{site}
 use Rattle.desk.specs.Calls.{pointEntry}
 use Rattle.stars.specs.Stars.{Stars, referred, enrolledUpTo, station, at}
@@ -73,7 +73,7 @@ emptyFound q k = refl
 
 -- the answers, from what the walk found and the stations
 answers-by : (ws : Words) (q : Site) (k : ℕ) (f : Found) (all : List Station) → found ws q k ≡ f → stations ws ≡ all
-    → answersFound ws q k ≡ rising (map (λ p. p .number) (filter (answersTo all q k) (map stationIn (f .candidates))))
+    → answersFound ws q k ≡ rising (map (λ p. p .number) (filter (answersTo all q k) (map stationOfEntry (f .candidates))))
 unfolding answersFound
 answers-by ws q k f all e s = rw (e, s)
 
