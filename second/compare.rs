@@ -11,12 +11,14 @@ mod random;
 mod sheet;
 mod sheets;
 mod table;
+#[path = "../bindings/rust/ullagreth.rs"]
+mod ullagreth;
 
-use flat::Flat;
 use library::Lists;
 use random::Random;
 use std::time::Instant;
 use table::Table;
+use ullagreth::Candidate;
 
 fn main() {
     let args: Vec<String> = std::env::args().collect();
@@ -24,7 +26,7 @@ fn main() {
     match args.get(1).map(String::as_str) {
         Some("check") => checks(seeds),
         Some("changes") => changes(seeds),
-                Some("queries") => queries(seeds),
+        Some("queries") => queries(seeds),
         Some("sheets") => programs::sheets(seeds, args.get(3).map_or("target/bin/ullagreth", String::as_str)),
         Some("bench") => bench(),
         _ => {
@@ -162,10 +164,8 @@ fn queries(seeds: u64) {
             let places = if r.below(20) == 0 { r.below(6) as usize } else { 500 };
             let mut l = Lists::marked(room, places);
             let mut want = l.clone();
-            let mut passing = l.clone();
+            want.tell(0, 0, 0);
             let given = library::query(&w, x, y, k, &mut l);
-            // The table passes the check, so the query that does not check it does the same.
-            assert_eq!((library::query_passing(&w, x, y, k, &mut passing), &passing), (given, &l), "seed {seed}");
             let q = [i64::from(x), i64::from(y)];
             let number = if !table::on_grid(x) || !table::on_grid(y) {
                 4
@@ -176,17 +176,17 @@ fn queries(seeds: u64) {
             } else {
                 let f = query::walk(&t, q, k as usize);
                 assert_eq!(f.answers, query::scan(&all, q, k as usize));
-                for (i, c) in f.candidates.iter().enumerate() {
-                    (want.numbers[i], want.xs[i], want.ys[i], want.squares[i]) = (c.0, c.1 as i32, c.2 as i32, c.3 as u64);
+                for (record, c) in want.candidates.iter_mut().zip(&f.candidates) {
+                    *record = Candidate { number: c.0, x: c.1 as i32, y: c.2 as i32, square: c.3 as u64 };
                 }
                 if places < f.answers.len() {
-                    want.counts = [f.answers.len() as u64, 0, 0];
+                    want.tell(f.answers.len(), 0, 0);
                     10
                 } else {
                     for (i, a) in f.answers.iter().enumerate() {
                         want.answers[i] = *a as u32;
                     }
-                    want.counts = [f.answers.len() as u64, f.candidates.len() as u64, f.opened as u64];
+                    want.tell(f.answers.len(), f.candidates.len(), f.opened);
                     0
                 }
             };
@@ -194,8 +194,29 @@ fn queries(seeds: u64) {
             assert_eq!(l, want, "seed {seed}");
             calls += 1;
         }
+        #[cfg(sites)]
+        many_sites(&mut r, &t, seed);
     }
     println!("queries: {calls} calls agree in every word of both lists");
+}
+
+/// One call for many sites, in rows of several lengths: n of each query, 0 where it is refused, and the counts behind stay.
+#[cfg(sites)]
+fn many_sites(r: &mut Random, t: &Table, seed: u64) {
+    let (mut xs, mut ys): (Vec<i32>, Vec<i32>) = (0..r.between(1, 12)).map(|_| r.place(seed)).unzip();
+    if r.below(4) == 0 {
+        *(if r.below(2) == 0 { &mut xs[0] } else { &mut ys[0] }) = 1_000_001;
+    }
+    xs.truncate(r.between(8, 12) as usize);
+    ys.truncate(r.between(8, 12) as usize);
+    let k = r.between(0, 17) as i32;
+    let mut counts = vec![77_777; r.below(14) as usize];
+    let mut want = counts.clone();
+    for (n, (&x, &y)) in want.iter_mut().zip(xs.iter().zip(&ys)) {
+        let granted = table::on_grid(x) && table::on_grid(y) && (1..=16).contains(&k);
+        *n = if granted { query::scan(&t.stations(), [i64::from(x), i64::from(y)], k as usize).len() as u32 } else { 0 };
+    }
+    assert_eq!((library::sites(&t.words(), &xs, &ys, k, &mut counts), counts), (0, want), "seed {seed}");
 }
 
 // ---- how long things take: the best of some rounds, both sides in one run
@@ -226,38 +247,28 @@ fn bench() {
     });
     println!("check of a full table: {:.1} microseconds", 1e6 * s / turns as f64);
 
-        bench_queries(&mut r);
+    #[cfg(sites)]
+    bench_sites(&mut r);
 }
 
-fn bench_queries(r: &mut Random) {
+/// One call for all sites on the library's side, and on the second's a query for each; every n must agree.
+#[cfg(sites)]
+fn bench_sites(r: &mut Random) {
     // The scan has no tree: it keeps the holders as a flat list, in the order in which they came.
-    let (mut t, mut flat) = (Table::new(), Flat::default());
+    let (mut t, mut flat) = (Table::new(), flat::Flat::default());
     while t.points < 400 {
         let ((x, y), number) = (r.place(0), r.between(1, 9999) as i32);
         assert_eq!(t.enrol(number, x, y), flat.enrol(number, x, y));
     }
     let w = t.words();
-    let sites: Vec<(i32, i32)> = (0..10_000).map(|_| r.place(0)).collect();
-    let mut l = Lists::marked(500, 500);
-    let mut sum = 0u64;
-    let proved = best(3, || {
-        for &(x, y) in &sites {
-            assert_eq!(library::query_passing(&w, x, y, 5, &mut l), 0);
-            sum += l.counts[0];
-        }
-    });
-    let mut other = 0u64;
-    let scanned = best(3, || {
-        for &(x, y) in &sites {
-            other += flat.query([i64::from(x), i64::from(y)], 5).len() as u64;
-        }
-    });
-    assert_eq!(sum, other);
-    let walked = best(3, || {
-        for &(x, y) in &sites {
-            assert!(query::walk(&t, [i64::from(x), i64::from(y)], 5).opened > 0);
-        }
-    });
+    let (xs, ys): (Vec<i32>, Vec<i32>) = (0..10_000).map(|_| r.place(0)).unzip();
+    let sites: Vec<[i64; 2]> = xs.iter().zip(&ys).map(|(&x, &y)| [i64::from(x), i64::from(y)]).collect();
+    let (mut counts, mut other) = (vec![0; sites.len()], vec![0; sites.len()]);
+    let proved = best(3, || assert_eq!(library::sites(&w, &xs, &ys, 5, &mut counts), 0));
+    let scanned = best(3, || other.iter_mut().zip(&sites).for_each(|(n, &q)| *n = flat.query(q, 5).len() as u32));
+    assert!(counts == other);
+    let walked = best(3, || other.iter_mut().zip(&sites).for_each(|(n, &q)| *n = query::walk(&t, q, 5).answers.len() as u32));
+    assert!(counts == other);
     let per = |s: f64| s * 1e6 / sites.len() as f64;
     println!("query, 400 points, k 5: proved {:.1}, second's walk {:.1}, second's scan {:.1} microseconds a site", per(proved), per(walked), per(scanned));
     println!("sites per second against the scan of every holder: {:.1} times; against the second's walk: {:.2} times the time", scanned / proved, proved / walked);

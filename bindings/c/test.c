@@ -1,0 +1,404 @@
+/* Tries every call of ullagreth.h: document 01's cases, each refusal in its order, and what must stay as it was.
+ * Prints what failed and exits 1, or prints one line. What is expected was written by hand from document 01. */
+#include "ullagreth.h"
+#include <stdio.h>
+#include <string.h>
+
+_Static_assert(ULLAGRETH_WORDS == 2 + ULLAGRETH_SLOTS * ULLAGRETH_SLOT_WORDS, "the slots fill the table");
+_Static_assert(ULLAGRETH_SLOT_WORDS == 2 + 5 * ULLAGRETH_MOST_ENTRIES, "the entries fill a slot");
+_Static_assert(sizeof(struct ullagreth_candidate) == 24, "the size of a record");
+_Static_assert(offsetof(struct ullagreth_candidate, square) == 16, "the place of the square");
+
+enum { WORDS = ULLAGRETH_WORDS, MOST = ULLAGRETH_MOST_POINTS, REACH = ULLAGRETH_REACH };
+
+/* Marks that no call writes. */
+enum { MARK = 77777 };
+static const struct ullagreth_candidate MARKED = {-MARK, -MARK, -MARK, 77777777777777};
+
+static int checks, failures;
+static const char *trying;
+
+static void same(int line, const char *what, long long got, long long want)
+{
+    checks++;
+    if (got == want)
+        return;
+    failures++;
+    printf("%s, test.c:%d: %s is %lld and not %lld\n", trying, line, what, got, want);
+}
+
+#define SAME(got, want) same(__LINE__, #got, (long long)(got), (long long)(want))
+
+/* The table, with room for one that is too long, and its words before the call. */
+static int32_t table[WORDS + 1], before[WORDS + 1];
+static struct ullagreth_candidate list[MOST];
+static uint32_t answers[MOST];
+static uint64_t counts[4];
+
+static void save(void)
+{
+    memcpy(before, table, sizeof table);
+}
+
+static int stays(void)
+{
+    return memcmp(before, table, sizeof table) == 0;
+}
+
+static int same_record(struct ullagreth_candidate a, struct ullagreth_candidate b)
+{
+    return a.number == b.number && a.x == b.x && a.y == b.y && a.square == b.square;
+}
+
+/* From so many on, both lists have their marks; so has the fourth count. */
+static int marked_from(size_t candidates, size_t answered)
+{
+    int holds = counts[3] == MARK;
+    for (size_t i = candidates; i < MOST; i++)
+        holds = holds && same_record(list[i], MARKED);
+    for (size_t i = answered; i < MOST; i++)
+        holds = holds && answers[i] == MARK;
+    return holds;
+}
+
+/* A query with a table of so many words and lists of so many places, on lists that are marked. */
+static uint8_t ask(size_t words, int32_t x, int32_t y, int32_t k, size_t room, size_t places)
+{
+    for (size_t i = 0; i < MOST; i++) {
+        list[i] = MARKED;
+        answers[i] = MARK;
+    }
+    for (size_t i = 0; i < 4; i++)
+        counts[i] = MARK;
+    save();
+    return ullagreth_query(table, words, x, y, k, list, room, answers, places, counts, 4);
+}
+
+struct point {
+    int32_t number, x, y;
+};
+
+/* A query and what is wanted: counts, the numbers of the candidates in the order found, the answers. */
+struct query {
+    int32_t x, y, k;
+    uint64_t n, m, o;
+    int32_t candidates[6];
+    uint32_t answers[6];
+};
+
+static struct ullagreth_candidate record_of(struct point p, int32_t x, int32_t y)
+{
+    int64_t across = (int64_t)p.x - x, up = (int64_t)p.y - y;
+    struct ullagreth_candidate c = {p.number, p.x, p.y, (uint64_t)(across * across + up * up)};
+    return c;
+}
+
+/* The front of the list is the m candidates that the query wants; points[i] has number i + 1. */
+static void same_candidates(const struct query *q, const struct point *points)
+{
+    for (size_t i = 0; i < q->m; i++) {
+        struct point p = points[q->candidates[i] - 1];
+        SAME(same_record(list[i], record_of(p, q->x, q->y)), 1);
+    }
+}
+
+static void granted(const struct query *q, const struct point *points)
+{
+    SAME(ask(WORDS, q->x, q->y, q->k, MOST, MOST), ULLAGRETH_DONE);
+    SAME(counts[0], q->n);
+    SAME(counts[1], q->m);
+    SAME(counts[2], q->o);
+    same_candidates(q, points);
+    for (size_t i = 0; i < q->n; i++)
+        SAME(answers[i], q->answers[i]);
+    SAME(marked_from(q->m, q->n), 1);
+    SAME(stays(), 1);
+}
+
+/* The same query with one answer place too few: n alone, the list as before, no answer. */
+static void refused_for_answers(const struct query *q, const struct point *points)
+{
+    SAME(ask(WORDS, q->x, q->y, q->k, MOST, q->n - 1), ULLAGRETH_FEW_ANSWERS);
+    SAME(counts[0], q->n);
+    SAME(counts[1], 0);
+    SAME(counts[2], 0);
+    same_candidates(q, points);
+    SAME(marked_from(q->m, 0), 1);
+    SAME(stays(), 1);
+}
+
+static void enrol_all(const struct point *points, size_t n)
+{
+    for (size_t i = 0; i < n; i++)
+        SAME(ullagreth_enrol(table, WORDS, points[i].number, points[i].x, points[i].y), ULLAGRETH_DONE);
+    SAME(ullagreth_check(table, WORDS), ULLAGRETH_DONE);
+}
+
+static void try_queries(const struct query *queries, size_t n, const struct point *points)
+{
+    for (size_t i = 0; i < n; i++) {
+        granted(&queries[i], points);
+        refused_for_answers(&queries[i], points);
+    }
+}
+
+#define LENGTH(row) (sizeof(row) / sizeof(row)[0])
+
+/* ---- document 01's cases */
+
+static void empty_table(void)
+{
+    static const struct query none = {5, 0, 1, 0, 0, 0, {0}, {0}};
+    ullagreth_empty(table);
+    SAME(ullagreth_check(table, WORDS), ULLAGRETH_DONE);
+    granted(&none, NULL);
+    /* It has no points, so that lists of no places are long enough. */
+    SAME(ask(WORDS, 5, 0, 1, 0, 0), ULLAGRETH_DONE);
+    SAME(counts[0] + counts[1] + counts[2], 0);
+    SAME(ask(WORDS, 5, 0, 17, 0, 0), ULLAGRETH_NO_SUCH_K);
+    SAME(ullagreth_withdraw(table, WORDS, 1), ULLAGRETH_NOT_ENROLLED);
+    SAME(stays(), 1);
+}
+
+static void three_and_four(void)
+{
+    static const struct point points[] = {{1, 0, 0}, {2, 4, 0}, {3, 10, 0}, {4, 4, 0}};
+    static const struct query of_three[] = {
+        {5, 0, 1, 2, 2, 1, {2, 3}, {2, 3}},
+        {5, 0, 2, 3, 3, 1, {2, 1, 3}, {1, 2, 3}},
+        {8, 0, 1, 2, 2, 1, {3, 2}, {2, 3}},
+    };
+    static const struct query of_four[] = {
+        {5, 0, 1, 1, 2, 1, {2, 3}, {3}},
+        {5, 0, 2, 3, 3, 1, {2, 4, 3}, {2, 3, 4}},
+        {4, 0, 1, 4, 4, 1, {2, 4, 1, 3}, {1, 2, 3, 4}},
+    };
+    ullagreth_empty(table);
+    enrol_all(points, 3);
+    try_queries(of_three, LENGTH(of_three), points);
+    enrol_all(points + 3, 1);
+    try_queries(of_four, LENGTH(of_four), points);
+}
+
+static void put(int32_t *words, size_t slot, size_t place, int32_t reference, int32_t low, int32_t high)
+{
+    int32_t *entry = words + 2 + ULLAGRETH_SLOT_WORDS * slot + 2 + 5 * place;
+    entry[0] = reference;
+    entry[1] = low;
+    entry[3] = high;
+}
+
+static void head(int32_t *words, size_t slot, int32_t level, int32_t entries)
+{
+    words[2 + ULLAGRETH_SLOT_WORDS * slot] = level;
+    words[2 + ULLAGRETH_SLOT_WORDS * slot + 1] = entries;
+}
+
+/* Number i at (10 × (i − 1), 0). */
+static void nine(struct point *points)
+{
+    for (int32_t i = 0; i < 9; i++)
+        points[i] = (struct point){i + 1, 10 * i, 0};
+    ullagreth_empty(table);
+    enrol_all(points, 9);
+}
+
+/* Every word of the nine points' table: slot 0 holds 1 to 4, slot 1 holds 5 to 9, the root is slot 2. */
+static void words_of_nine(int32_t *words)
+{
+    ullagreth_empty(words);
+    words[0] = 2;
+    words[1] = 9;
+    head(words, 0, 0, 4);
+    head(words, 1, 0, 5);
+    head(words, 2, 1, 2);
+    for (int32_t i = 0; i < 9; i++)
+        put(words, i < 4 ? 0 : 1, (size_t)(i < 4 ? i : i - 4), i + 1, 10 * i, 10 * i);
+    put(words, 2, 0, 0, 0, 30);
+    put(words, 2, 1, 1, 40, 80);
+}
+
+static void nine_points(void)
+{
+    static int32_t wanted[WORDS];
+    /* The first is starred: slot 1 is never opened. In the second, slot 1 is; 3 and 6 are candidates and fail the final test. */
+    static const struct query queries[] = {
+        {-10, 0, 1, 1, 1, 2, {1}, {1}},
+        {35, 0, 2, 2, 4, 3, {4, 3, 5, 6}, {4, 5}},
+    };
+    struct point points[9];
+    nine(points);
+    words_of_nine(wanted);
+    SAME(memcmp(table, wanted, sizeof wanted), 0);
+    try_queries(queries, LENGTH(queries), points);
+    /* A list of nine places is long enough, one of eight is not. */
+    SAME(ask(WORDS, 35, 0, 2, 9, 2), ULLAGRETH_DONE);
+    SAME(ask(WORDS, 35, 0, 2, 8, 2), ULLAGRETH_FEW_CANDIDATES);
+    /* Withdrawn one after the other, they leave the empty table. */
+    for (int32_t i = 1; i <= 9; i++) {
+        SAME(ullagreth_withdraw(table, WORDS, i), ULLAGRETH_DONE);
+        SAME(ullagreth_check(table, WORDS), ULLAGRETH_DONE);
+    }
+    ullagreth_empty(wanted);
+    SAME(memcmp(table, wanted, sizeof wanted), 0);
+}
+
+/* A row of fewer than three counts stays as it was; of a longer one the rest does, which marked_from sees. */
+static void short_counts(void)
+{
+    uint64_t two[] = {MARK, MARK};
+    struct point points[9];
+    nine(points);
+    SAME(ullagreth_query(table, WORDS, -10, 0, 1, list, MOST, answers, MOST, two, 2), ULLAGRETH_DONE);
+    SAME(two[0] == MARK && two[1] == MARK, 1);
+}
+
+/* ---- refusals: every line from the wanted one on holds, and none before it */
+
+static void query_refused(uint8_t number, size_t words, int32_t x, int32_t y, int32_t k, size_t room)
+{
+    SAME(ask(words, x, y, k, room, 0), number);
+    SAME(counts[0] + counts[1] + counts[2], 0);
+    SAME(marked_from(0, 0), 1);
+    SAME(stays(), 1);
+}
+
+static void enrol_refused(uint8_t number, size_t words, int32_t point, int32_t x, int32_t y)
+{
+    save();
+    SAME(ullagreth_enrol(table, words, point, x, y), number);
+    SAME(stays(), 1);
+}
+
+static void withdraw_refused(uint8_t number, size_t words, int32_t point)
+{
+    save();
+    SAME(ullagreth_withdraw(table, words, point), number);
+    SAME(stays(), 1);
+}
+
+static void tables_refused(void)
+{
+    static const size_t lengths[] = {0, 1, WORDS - 1, WORDS + 1};
+    struct point points[9];
+    nine(points);
+    table[WORDS] = 0;
+    /* Word 1 counts a point too many: well formed no more, and of a wrong length that is not asked. */
+    table[1] = 10;
+    for (size_t i = 0; i < LENGTH(lengths); i++) {
+        SAME(ullagreth_check(table, lengths[i]), ULLAGRETH_WRONG_LENGTH);
+        enrol_refused(ULLAGRETH_WRONG_LENGTH, lengths[i], 0, REACH + 1, 0);
+        withdraw_refused(ULLAGRETH_WRONG_LENGTH, lengths[i], 0);
+        query_refused(ULLAGRETH_WRONG_LENGTH, lengths[i], REACH + 1, 0, 0, 0);
+    }
+    SAME(ullagreth_check(table, WORDS), ULLAGRETH_NOT_WELL_FORMED);
+    enrol_refused(ULLAGRETH_NOT_WELL_FORMED, WORDS, 0, REACH + 1, 0);
+    withdraw_refused(ULLAGRETH_NOT_WELL_FORMED, WORDS, 0);
+    query_refused(ULLAGRETH_NOT_WELL_FORMED, WORDS, REACH + 1, 0, 0, 0);
+}
+
+static void queries_refused(void)
+{
+    static const int32_t off[] = {REACH + 1, -REACH - 1, INT32_MAX, INT32_MIN};
+    static const int32_t ks[] = {0, 17, -1, INT32_MAX, INT32_MIN};
+    struct point points[9];
+    nine(points);
+    for (size_t i = 0; i < LENGTH(off); i++) {
+        query_refused(ULLAGRETH_OFF_GRID, WORDS, off[i], 0, 0, 0);
+        query_refused(ULLAGRETH_OFF_GRID, WORDS, 0, off[i], 0, 0);
+    }
+    for (size_t i = 0; i < LENGTH(ks); i++)
+        query_refused(ULLAGRETH_NO_SUCH_K, WORDS, REACH, -REACH, ks[i], 0);
+    /* With k 16 all nine answer, with k 1 none: each has another nearer. */
+    query_refused(ULLAGRETH_FEW_CANDIDATES, WORDS, -REACH, REACH, 16, 8);
+    SAME(ask(WORDS, -REACH, REACH, 16, 9, 8), ULLAGRETH_FEW_ANSWERS);
+    SAME(ask(WORDS, -REACH, REACH, 16, 9, 9), ULLAGRETH_DONE);
+    SAME(counts[0], 9);
+    SAME(ask(WORDS, -REACH, REACH, 1, 9, 0), ULLAGRETH_DONE);
+    SAME(counts[0], 0);
+}
+
+static void changes_refused(void)
+{
+    static const int32_t numbers[] = {0, 10000, -1, INT32_MAX, INT32_MIN};
+    static const int32_t off[] = {REACH + 1, -REACH - 1, INT32_MAX, INT32_MIN};
+    ullagreth_empty(table);
+    SAME(ullagreth_enrol(table, WORDS, 1, REACH, -REACH), ULLAGRETH_DONE);
+    SAME(ullagreth_enrol(table, WORDS, 9999, -REACH, REACH), ULLAGRETH_DONE);
+    for (int32_t i = 2; i < 500; i++)
+        SAME(ullagreth_enrol(table, WORDS, i, 37 * i % 1000, 91 * i % 1000), ULLAGRETH_DONE);
+    for (size_t i = 0; i < LENGTH(numbers); i++) {
+        enrol_refused(ULLAGRETH_NO_SUCH_NUMBER, WORDS, numbers[i], REACH + 1, 0);
+        withdraw_refused(ULLAGRETH_NO_SUCH_NUMBER, WORDS, numbers[i]);
+    }
+    for (size_t i = 0; i < LENGTH(off); i++) {
+        enrol_refused(ULLAGRETH_OFF_GRID, WORDS, 1, off[i], 0);
+        enrol_refused(ULLAGRETH_OFF_GRID, WORDS, 1, 0, off[i]);
+    }
+    enrol_refused(ULLAGRETH_ALREADY_ENROLLED, WORDS, 9999, 0, 0);
+    enrol_refused(ULLAGRETH_FULL, WORDS, 500, 0, 0);
+    withdraw_refused(ULLAGRETH_NOT_ENROLLED, WORDS, 500);
+    /* With one withdrawn there is room again. */
+    SAME(ullagreth_withdraw(table, WORDS, 9999), ULLAGRETH_DONE);
+    withdraw_refused(ULLAGRETH_NOT_ENROLLED, WORDS, 9999);
+    SAME(ullagreth_enrol(table, WORDS, 500, 0, 0), ULLAGRETH_DONE);
+    SAME(ullagreth_check(table, WORDS), ULLAGRETH_DONE);
+    SAME(table[1], MOST);
+}
+
+#ifdef SITES
+/* ---- many places at once */
+
+static void many_places(void)
+{
+    static const int32_t xs[] = {-10, REACH + 1, 35, 0, 7}, ys[] = {0, 0, 0, -REACH - 1};
+    struct point points[9];
+    uint32_t found[5];
+    nine(points);
+    save();
+    for (int32_t k = 0; k <= 17; k++) {
+        for (size_t i = 0; i < 5; i++)
+            found[i] = MARK;
+        SAME(ullagreth_sites(table, WORDS, xs, 5, ys, 4, k, found, 5), ULLAGRETH_DONE);
+        for (size_t i = 0; i < 4; i++)
+            SAME(found[i], ask(WORDS, xs[i], ys[i], k, MOST, MOST) == ULLAGRETH_DONE ? counts[0] : 0);
+        SAME(found[4], MARK);
+    }
+    SAME(ullagreth_sites(table, WORDS, xs, 5, ys, 4, 1, found, 1), ULLAGRETH_DONE);
+    SAME(found[0], 1);
+    SAME(found[4], MARK);
+    /* A refused table, by the check's number. */
+    found[0] = MARK;
+    SAME(ullagreth_sites(table, WORDS - 1, xs, 5, ys, 4, 1, found, 5), ULLAGRETH_WRONG_LENGTH);
+    SAME(stays(), 1);
+    table[1] = 10;
+    SAME(ullagreth_sites(table, WORDS, xs, 5, ys, 4, 1, found, 5), ULLAGRETH_NOT_WELL_FORMED);
+    SAME(found[0], MARK);
+}
+#endif
+
+static void try(const char *name, void (*cases)(void))
+{
+    trying = name;
+    cases();
+}
+
+int main(void)
+{
+    try("the empty table", empty_table);
+    try("three and four points", three_and_four);
+    try("nine points", nine_points);
+    try("short counts", short_counts);
+    try("tables refused", tables_refused);
+    try("queries refused", queries_refused);
+    try("changes refused", changes_refused);
+#ifdef SITES
+    try("many places", many_places);
+#endif
+    if (failures > 0) {
+        printf("the C header: %d of %d checks failed\n", failures, checks);
+        return 1;
+    }
+    printf("the C header: %d checks hold\n", checks);
+    return 0;
+}

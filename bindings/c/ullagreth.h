@@ -1,0 +1,94 @@
+/* The calls of Ullagreth for C programs. They stand in target/staticlib/libexport.a, which `rt staticlib export` proves and writes.
+ *
+ * A lent row passes as a pointer and then the number of its elements. The library takes the caller's word for both: no pointer is null (not
+ * even with 0 elements), each is aligned for its type and has that many elements behind it, and a row that a call may write overlaps no other
+ * row of that call. No call keeps a pointer, allocates, or has a state of its own. */
+#ifndef ULLAGRETH_H
+#define ULLAGRETH_H
+
+#include <stddef.h>
+#include <stdint.h>
+
+#ifdef __cplusplus
+extern "C" {
+#endif
+
+/* The figures. The table is ULLAGRETH_WORDS words: the root's slot (-1 if empty), the number of points, then the slots: level (-1 if free),
+ * number of entries, and eight entries of reference, x low, y low, x high, y high. */
+enum {
+    ULLAGRETH_WORDS = 10754,
+    ULLAGRETH_SLOTS = 256,
+    ULLAGRETH_SLOT_WORDS = 42,
+    ULLAGRETH_MOST_ENTRIES = 8,
+    ULLAGRETH_LEAST_ENTRIES = 3, /* of a node that is not the root */
+    ULLAGRETH_MOST_POINTS = 500, /* a candidate list and an answer list of so many are never refused */
+    ULLAGRETH_HIGHEST_NUMBER = 9999,
+    ULLAGRETH_REACH = 1000000, /* a coordinate runs from -ULLAGRETH_REACH to ULLAGRETH_REACH */
+    ULLAGRETH_MOST_K = 16
+};
+
+/* The numbers given back. */
+enum {
+    ULLAGRETH_DONE = 0,
+    ULLAGRETH_WRONG_LENGTH = 1,     /* table not 10,754 words */
+    ULLAGRETH_NOT_WELL_FORMED = 2,  /* table not well formed */
+    ULLAGRETH_NO_SUCH_NUMBER = 3,   /* point number outside 1 to 9,999 */
+    ULLAGRETH_OFF_GRID = 4,         /* a coordinate off the grid */
+    ULLAGRETH_NO_SUCH_K = 5,        /* k outside 1 to 16 */
+    ULLAGRETH_ALREADY_ENROLLED = 6, /* point already enrolled */
+    ULLAGRETH_FULL = 7,             /* 500 points enrolled */
+    ULLAGRETH_NOT_ENROLLED = 8,     /* point not enrolled */
+    ULLAGRETH_FEW_CANDIDATES = 9,   /* candidate list shorter than the points enrolled */
+    ULLAGRETH_FEW_ANSWERS = 10,     /* answer list shorter than n */
+    ULLAGRETH_MISSHAPEN = 11,       /* misshapen line: of the job sheet only, no call here gives it */
+    ULLAGRETH_SHEET_TOO_LONG = 12   /* sheet longer than 65,536 bytes: of the job sheet only */
+};
+
+/* A record of the candidate list. */
+struct ullagreth_candidate {
+    int32_t number;
+    int32_t x;
+    int32_t y;
+    uint64_t square; /* the squared distance to the query's place */
+};
+
+/* Makes ULLAGRETH_WORDS words the empty table. The only code of this header, and not proved; ullagreth_check grants what it makes. */
+static inline void ullagreth_empty(int32_t *table)
+{
+    for (size_t i = 0; i < ULLAGRETH_WORDS; i++)
+        table[i] = 0;
+    table[0] = -1;
+    for (size_t slot = 0; slot < ULLAGRETH_SLOTS; slot++)
+        table[2 + ULLAGRETH_SLOT_WORDS * slot] = -1;
+}
+
+/* The table check. Gives 1 or 2, or 0 for a well-formed table. It writes nothing. */
+uint8_t ullagreth_check(const int32_t *table, size_t table_length);
+
+/* Enrols a point at a place. Gives the first of 1, 2, 3, 4, 6, 7 whose line holds, and then every word of the table stays as it was; or 0, and
+ * then the table is well formed and holds its former points and this one, laid out as document 01's way down and split say. */
+uint8_t ullagreth_enrol(int32_t *table, size_t table_length, int32_t number, int32_t x, int32_t y);
+
+/* Withdraws the point with a number. Gives the first of 1, 2, 3, 8 whose line holds, and then every word of the table stays as it was; or 0, and
+ * then the table is well formed and holds its former points but this one, laid out as document 01's joining says. */
+uint8_t ullagreth_withdraw(int32_t *table, size_t table_length, int32_t number);
+
+/* Lists the points that have fewer than k others strictly nearer than (x, y). Gives the first of 1, 2, 4, 5, 9, 10 whose line holds, or 0: then
+ * the front of the list has the m candidates in the order found, the front of the answers has the n point numbers, rising, and the rest of both
+ * stays. Refusal 10 leaves the list as a success would and the answers as they were; any other refusal leaves both.
+ * The first three counts become n, m, o (10: n, 0, 0; any other refusal: 0, 0, 0) and the rest stays; a row of fewer than three stays whole. */
+uint8_t ullagreth_query(const int32_t *table, size_t table_length, int32_t x, int32_t y, int32_t k,
+                        struct ullagreth_candidate *list, size_t list_length, uint32_t *answers, size_t answers_length,
+                        uint64_t *counts, size_t counts_length);
+
+/* Counts the answers at many places after one check of the table. Gives 1 or 2 as the check does, and then no count changes; or 0: then for each
+ * i below the least of the three lengths counts[i] is n of the query at (xs[i], ys[i]) with k and lists of 500, or 0 if that query is refused.
+ * The counts behind those stay as they were. */
+uint8_t ullagreth_sites(const int32_t *table, size_t table_length, const int32_t *xs, size_t xs_length, const int32_t *ys, size_t ys_length,
+                        int32_t k, uint32_t *counts, size_t counts_length);
+
+#ifdef __cplusplus
+}
+#endif
+
+#endif

@@ -1,0 +1,319 @@
+//! Tries the wrapper, and through it every call: document 01's cases, each refusal in its order, and what must stay as it was.
+//! Prints what failed and exits 1, or prints one line. What is wanted was written by hand from document 01.
+
+mod ullagreth;
+
+use std::fmt::Debug;
+use ullagreth::{lent, Candidate, Counts, Refusal, Table, MOST_POINTS, SLOTS, SLOT_WORDS, WORDS};
+
+const EDGE: i32 = 1_000_000;
+/// Off the grid, on either side.
+const OFF: [i32; 4] = [EDGE + 1, -EDGE - 1, i32::MAX, i32::MIN];
+
+// What no call writes.
+const UNTOUCHED: Candidate = Candidate { number: -5, x: -6, y: -7, square: u64::MAX };
+const UNSAID: u32 = 123_456;
+
+#[derive(Default)]
+struct Tally {
+    checks: usize,
+    failed: usize,
+}
+
+impl Tally {
+    #[track_caller]
+    fn same<T: PartialEq + Debug>(&mut self, got: T, want: T) {
+        self.checks += 1;
+        if got != want {
+            self.failed += 1;
+            println!("{}: {got:?} and not {want:?}", std::panic::Location::caller());
+        }
+    }
+
+    /// Two rows of words, too long to be printed.
+    #[track_caller]
+    fn same_words(&mut self, got: &[i32], want: &[i32]) {
+        self.same((got.len(), got.iter().zip(want).position(|(a, b)| a != b)), (want.len(), None));
+    }
+}
+
+/// Both lists, with room for so many candidates and answers, untouched.
+fn lists(room: usize, places: usize) -> (Vec<Candidate>, Vec<u32>) {
+    (vec![UNTOUCHED; room], vec![UNSAID; places])
+}
+
+/// A point's number, x and y.
+type Point = (i32, i32, i32);
+
+/// What a granted query gives: the candidates' numbers in the order found, the answers, the nodes opened.
+struct Wanted {
+    at: (i32, i32),
+    k: i32,
+    candidates: &'static [i32],
+    answers: &'static [u32],
+    opened: usize,
+}
+
+impl Wanted {
+    /// The candidate list afterwards: the records found, and then what was there.
+    fn list(&self, points: &[Point]) -> Vec<Candidate> {
+        let mut list = vec![UNTOUCHED; MOST_POINTS];
+        for (record, &number) in list.iter_mut().zip(self.candidates) {
+            let &(_, x, y) = points.iter().find(|p| p.0 == number).expect("a point of the case");
+            let (dx, dy) = (i64::from(x - self.at.0), i64::from(y - self.at.1));
+            *record = Candidate { number, x, y, square: (dx * dx + dy * dy) as u64 };
+        }
+        list
+    }
+}
+
+/// Asks once with room for all, and once with one answer place too few.
+#[track_caller]
+fn asked(t: &mut Tally, table: &Table, points: &[Point], w: &Wanted) {
+    let (before, (x, y)) = (table.clone(), w.at);
+    let (mut list, mut answers) = lists(MOST_POINTS, MOST_POINTS);
+    let counts = Counts { n: w.answers.len(), m: w.candidates.len(), o: w.opened };
+    t.same(table.query(x, y, w.k, &mut list, &mut answers), Ok(counts));
+    t.same(list, w.list(points));
+    t.same(&answers[..counts.n], w.answers);
+    t.same(answers[counts.n..].iter().all(|&a| a == UNSAID), true);
+    t.same_words(table.words(), before.words());
+
+    if counts.n > 0 {
+        let (mut list, mut answers) = lists(MOST_POINTS, counts.n - 1);
+        t.same(table.query(x, y, w.k, &mut list, &mut answers), Err(Refusal::FewAnswers { n: counts.n }));
+        t.same(list, w.list(points));
+        t.same(answers, vec![UNSAID; counts.n - 1]);
+        let (mut list, mut answers, mut row) = (vec![UNTOUCHED; MOST_POINTS], vec![UNSAID; counts.n - 1], [9; 3]);
+        t.same(lent::query(table.words(), x, y, w.k, &mut list, &mut answers, &mut row), 10);
+        t.same(row, [counts.n as u64, 0, 0]);
+        t.same_words(table.words(), before.words());
+    }
+}
+
+#[track_caller]
+fn enrolled(t: &mut Tally, table: &mut Table, points: &[Point]) {
+    for &(number, x, y) in points {
+        t.same(table.enrol(number, x, y), Ok(()));
+        t.same(table.check(), Ok(()));
+    }
+}
+
+// ---- document 01's cases
+
+fn the_empty_table(t: &mut Tally) {
+    let mut table = Table::empty();
+    t.same(table.check(), Ok(()));
+    asked(t, &table, &[], &Wanted { at: (5, 0), k: 1, candidates: &[], answers: &[], opened: 0 });
+    t.same(table.query(5, 0, 1, &mut [], &mut []), Ok(Counts { n: 0, m: 0, o: 0 }));
+    t.same(table.query(5, 0, 17, &mut [], &mut []), Err(Refusal::NoSuchK));
+    t.same(table.withdraw(1), Err(Refusal::NotEnrolled));
+    t.same_words(table.words(), Table::empty().words());
+}
+
+fn three_points_and_a_fourth(t: &mut Tally) {
+    let points = [(1, 0, 0), (2, 4, 0), (3, 10, 0), (4, 4, 0)];
+    let mut table = Table::empty();
+    enrolled(t, &mut table, &points[..3]);
+    asked(t, &table, &points, &Wanted { at: (5, 0), k: 1, candidates: &[2, 3], answers: &[2, 3], opened: 1 });
+    asked(t, &table, &points, &Wanted { at: (5, 0), k: 2, candidates: &[2, 1, 3], answers: &[1, 2, 3], opened: 1 });
+    asked(t, &table, &points, &Wanted { at: (8, 0), k: 1, candidates: &[3, 2], answers: &[2, 3], opened: 1 });
+    enrolled(t, &mut table, &points[3..]);
+    asked(t, &table, &points, &Wanted { at: (5, 0), k: 1, candidates: &[2, 3], answers: &[3], opened: 1 });
+    asked(t, &table, &points, &Wanted { at: (5, 0), k: 2, candidates: &[2, 4, 3], answers: &[2, 3, 4], opened: 1 });
+    asked(t, &table, &points, &Wanted { at: (4, 0), k: 1, candidates: &[2, 4, 1, 3], answers: &[1, 2, 3, 4], opened: 1 });
+}
+
+/// Number i at (10 × (i − 1), 0).
+fn nine() -> (Table, Vec<Point>) {
+    let points: Vec<Point> = (0..9).map(|i| (i + 1, 10 * i, 0)).collect();
+    let mut table = Table::empty();
+    points.iter().for_each(|&(number, x, y)| table.enrol(number, x, y).expect("a new point on the grid"));
+    (table, points)
+}
+
+/// A slot of entries along the x axis, each a reference and its box's two ends.
+fn slot(level: i32, entries: &[(i32, i32, i32)]) -> Vec<i32> {
+    let mut words = vec![level, entries.len() as i32];
+    entries.iter().for_each(|&(reference, low, high)| words.extend([reference, low, 0, high, 0]));
+    words.resize(SLOT_WORDS, 0);
+    words
+}
+
+fn nine_points(t: &mut Tally) {
+    let (mut table, points) = nine();
+    let leaf = |some: &[Point]| slot(0, &some.iter().map(|&(number, x, _)| (number, x, x)).collect::<Vec<_>>());
+    let free = [vec![-1], vec![0; SLOT_WORDS - 1]].concat();
+    let root = slot(1, &[(0, 0, 30), (1, 40, 80)]);
+    let used = [vec![2, 9], leaf(&points[..4]), leaf(&points[4..]), root].concat();
+    t.same_words(table.words(), &[used, free.repeat(SLOTS - 3)].concat());
+
+    // Slot 1 is never opened.
+    asked(t, &table, &points, &Wanted { at: (-10, 0), k: 1, candidates: &[1], answers: &[1], opened: 2 });
+    // Here it is; 3 and 6 are candidates and fail the final test.
+    asked(t, &table, &points, &Wanted { at: (35, 0), k: 2, candidates: &[4, 3, 5, 6], answers: &[4, 5], opened: 3 });
+
+    for &(number, _, _) in &points {
+        t.same(table.withdraw(number), Ok(()));
+        t.same(table.check(), Ok(()));
+    }
+    t.same_words(table.words(), Table::empty().words());
+}
+
+/// The row of counts: of three places or more the first three, of fewer none.
+fn rows_of_counts(t: &mut Tally) {
+    let (table, _) = nine();
+    for (places, want) in [(0, vec![]), (2, vec![9, 9]), (3, vec![1, 1, 2]), (5, vec![1, 1, 2, 9, 9])] {
+        let (mut list, mut answers) = lists(9, 1);
+        let mut row = vec![9; places];
+        t.same(lent::query(table.words(), -10, 0, 1, &mut list, &mut answers, &mut row), 0);
+        t.same(row, want);
+    }
+}
+
+// ---- refusals: each line from the wanted one on holds, and none before it
+
+/// A query that is refused: zero counts, and nothing changes.
+#[track_caller]
+fn refused(t: &mut Tally, table: &Table, (x, y): (i32, i32), k: i32, room: usize, want: Refusal) {
+    let (mut list, mut answers) = lists(room, 0);
+    t.same(table.query(x, y, k, &mut list, &mut answers), Err(want));
+    let (mut roomy, mut row) = (vec![UNTOUCHED; room], [9; 3]);
+    t.same(lent::query(table.words(), x, y, k, &mut roomy, &mut answers, &mut row), want.number());
+    t.same((list, roomy), (vec![UNTOUCHED; room], vec![UNTOUCHED; room]));
+    t.same(row, [0; 3]);
+}
+
+/// Each call refuses such a table, whatever else is wrong with the call.
+#[track_caller]
+fn table_refused(t: &mut Tally, mut table: Table, want: Refusal) {
+    let before = table.clone();
+    t.same(table.check(), Err(want));
+    t.same(table.enrol(0, EDGE + 1, 0), Err(want));
+    t.same(table.withdraw(0), Err(want));
+    refused(t, &table, (EDGE + 1, 0), 0, 8, want);
+    t.same_words(table.words(), before.words());
+}
+
+fn tables_refused(t: &mut Tally) {
+    let mut words = nine().0.words().to_vec();
+    words[1] = 10; // a point too many
+    table_refused(t, Table::of_words(words.clone()), Refusal::NotWellFormed);
+    words.push(0);
+    for length in [0, 1, WORDS - 1, WORDS + 1] {
+        table_refused(t, Table::of_words(&words[..length]), Refusal::WrongLength);
+    }
+}
+
+fn queries_refused(t: &mut Tally) {
+    let (table, _) = nine();
+    for off in OFF {
+        refused(t, &table, (off, 0), 0, 8, Refusal::OffGrid);
+        refused(t, &table, (0, off), 0, 8, Refusal::OffGrid);
+    }
+    for k in [0, 17, -1, i32::MAX, i32::MIN] {
+        refused(t, &table, (EDGE, -EDGE), k, 8, Refusal::NoSuchK);
+    }
+    // With k 16 all nine answer, with k 1 none: each has another nearer.
+    refused(t, &table, (-EDGE, EDGE), 16, 8, Refusal::FewCandidates);
+    let query = |k, places| {
+        let (mut list, mut answers) = lists(9, places);
+        table.query(-EDGE, EDGE, k, &mut list, &mut answers).map(|counts| counts.n)
+    };
+    t.same(query(16, 8), Err(Refusal::FewAnswers { n: 9 }));
+    t.same(query(16, 9), Ok(9));
+    t.same(query(1, 0), Ok(0));
+}
+
+fn changes_refused(t: &mut Tally) {
+    let mut table = Table::empty();
+    t.same(table.enrol(1, EDGE, -EDGE), Ok(()));
+    t.same(table.enrol(9_999, -EDGE, EDGE), Ok(()));
+    for number in 2..500 {
+        t.same(table.enrol(number, 37 * number % 1000, 91 * number % 1000), Ok(()));
+    }
+    let full = table.clone();
+    for number in [0, 10_000, -1, i32::MAX, i32::MIN] {
+        t.same(table.enrol(number, EDGE + 1, 0), Err(Refusal::NoSuchNumber));
+        t.same(table.withdraw(number), Err(Refusal::NoSuchNumber));
+    }
+    for off in OFF {
+        t.same(table.enrol(1, off, 0), Err(Refusal::OffGrid));
+        t.same(table.enrol(1, 0, off), Err(Refusal::OffGrid));
+    }
+    t.same(table.enrol(9_999, 0, 0), Err(Refusal::AlreadyEnrolled));
+    t.same(table.enrol(500, 0, 0), Err(Refusal::Full));
+    t.same(table.withdraw(500), Err(Refusal::NotEnrolled));
+    t.same_words(table.words(), full.words());
+    // With one withdrawn there is room again.
+    t.same(table.withdraw(9_999), Ok(()));
+    t.same(table.withdraw(9_999), Err(Refusal::NotEnrolled));
+    t.same(table.enrol(500, 0, 0), Ok(()));
+    t.same((table.check(), table.words()[1]), (Ok(()), 500));
+}
+
+/// The numbers of document 01.
+fn numbers(t: &mut Tally) {
+    use Refusal::*;
+    let all = [
+        WrongLength,
+        NotWellFormed,
+        NoSuchNumber,
+        OffGrid,
+        NoSuchK,
+        AlreadyEnrolled,
+        Full,
+        NotEnrolled,
+        FewCandidates,
+        FewAnswers { n: 3 },
+        Misshapen,
+        SheetTooLong,
+    ];
+    t.same(all.map(Refusal::number), [1, 2, 3, 4, 5, 6, 7, 8, 9, 10, 11, 12]);
+}
+
+// ---- many places at once
+
+#[cfg(sites)]
+fn many_places(t: &mut Tally) {
+    let (table, _) = nine();
+    let (xs, ys) = ([-10, EDGE + 1, 35, 0, 7], [0, 0, 0, -EDGE - 1]);
+    for k in 0..=17 {
+        let mut want = vec![UNSAID; 6];
+        for i in 0..4 {
+            let (mut list, mut answers) = lists(MOST_POINTS, MOST_POINTS);
+            want[i] = table.query(xs[i], ys[i], k, &mut list, &mut answers).map_or(0, |counts| counts.n as u32);
+        }
+        let mut counts = vec![UNSAID; 6];
+        t.same(table.sites(&xs, &ys, k, &mut counts), Ok(()));
+        t.same(counts, want);
+    }
+    let mut one = [UNSAID];
+    t.same(table.sites(&xs, &ys, 1, &mut one), Ok(()));
+    t.same(one, [1]);
+    let (short, mut damaged) = (&table.words()[1..], table.words().to_vec());
+    damaged[1] = 10;
+    let mut counts = [UNSAID; 4];
+    t.same(Table::of_words(short).sites(&xs, &ys, 1, &mut counts), Err(Refusal::WrongLength));
+    t.same(Table::of_words(damaged).sites(&xs, &ys, 1, &mut counts), Err(Refusal::NotWellFormed));
+    t.same(counts, [UNSAID; 4]);
+}
+
+fn main() {
+    let mut t = Tally::default();
+    the_empty_table(&mut t);
+    three_points_and_a_fourth(&mut t);
+    nine_points(&mut t);
+    rows_of_counts(&mut t);
+    tables_refused(&mut t);
+    queries_refused(&mut t);
+    changes_refused(&mut t);
+    numbers(&mut t);
+    #[cfg(sites)]
+    many_places(&mut t);
+    if t.failed > 0 {
+        println!("the Rust wrapper: {} of {} checks failed", t.failed, t.checks);
+        std::process::exit(1);
+    }
+    println!("the Rust wrapper: {} checks hold", t.checks);
+}

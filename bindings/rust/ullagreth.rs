@@ -1,0 +1,247 @@
+//! The calls of Ullagreth for Rust programs: a module that a program takes with `#[path = ".."] mod ullagreth;` and links with
+//! `-L target/staticlib`. `Table` owns its words and tells a refusal as an error; `lent` has the same calls over lent rows, by document 01's
+//! numbers. Every `unsafe` of the border stands in `lent`.
+#![allow(dead_code)] // a program takes the calls that it needs
+
+use std::fmt;
+
+/// The words of a table, its slots, the words of a slot, the most points. Lists of `MOST_POINTS` are never refused.
+pub const WORDS: usize = 10_754;
+pub const SLOTS: usize = 256;
+pub const SLOT_WORDS: usize = 42;
+pub const MOST_POINTS: usize = 500;
+
+/// A record of the candidate list, laid out as the library has it.
+#[repr(C)]
+#[derive(Clone, Copy, PartialEq, Eq, Debug, Default)]
+pub struct Candidate {
+    pub number: i32,
+    pub x: i32,
+    pub y: i32,
+    /// The squared distance to the query's place.
+    pub square: u64,
+}
+
+/// n answers, m candidates, o nodes opened.
+#[derive(Clone, Copy, PartialEq, Eq, Debug)]
+pub struct Counts {
+    pub n: usize,
+    pub m: usize,
+    pub o: usize,
+}
+
+/// Document 01's numbers but 0.
+#[derive(Clone, Copy, PartialEq, Eq, Debug)]
+pub enum Refusal {
+    WrongLength,
+    NotWellFormed,
+    NoSuchNumber,
+    OffGrid,
+    NoSuchK,
+    AlreadyEnrolled,
+    Full,
+    NotEnrolled,
+    FewCandidates,
+    /// The only refusal that has a count: so many answers there are.
+    FewAnswers { n: usize },
+    /// This one and the next are of the job sheet: no call here gives them.
+    Misshapen,
+    SheetTooLong,
+}
+
+impl Refusal {
+    /// The number and the words of document 01.
+    fn line(self) -> (u8, &'static str) {
+        match self {
+            Refusal::WrongLength => (1, "table not 10,754 words"),
+            Refusal::NotWellFormed => (2, "table not well formed"),
+            Refusal::NoSuchNumber => (3, "point number outside 1 to 9,999"),
+            Refusal::OffGrid => (4, "a coordinate off the grid"),
+            Refusal::NoSuchK => (5, "k missing or outside 1 to 16"),
+            Refusal::AlreadyEnrolled => (6, "point already enrolled"),
+            Refusal::Full => (7, "500 points enrolled"),
+            Refusal::NotEnrolled => (8, "point not enrolled"),
+            Refusal::FewCandidates => (9, "candidate list shorter than the points enrolled"),
+            Refusal::FewAnswers { .. } => (10, "answer list shorter than n"),
+            Refusal::Misshapen => (11, "misshapen line"),
+            Refusal::SheetTooLong => (12, "sheet longer than 65,536 bytes"),
+        }
+    }
+
+    pub fn number(self) -> u8 {
+        self.line().0
+    }
+}
+
+impl fmt::Display for Refusal {
+    fn fmt(&self, f: &mut fmt::Formatter) -> fmt::Result {
+        f.write_str(self.line().1)
+    }
+}
+
+impl std::error::Error for Refusal {}
+
+/// What a number says; n is of use to 10 alone.
+fn granted(number: u8, n: usize) -> Result<(), Refusal> {
+    Err(match number {
+        0 => return Ok(()),
+        1 => Refusal::WrongLength,
+        2 => Refusal::NotWellFormed,
+        3 => Refusal::NoSuchNumber,
+        4 => Refusal::OffGrid,
+        5 => Refusal::NoSuchK,
+        6 => Refusal::AlreadyEnrolled,
+        7 => Refusal::Full,
+        8 => Refusal::NotEnrolled,
+        9 => Refusal::FewCandidates,
+        10 => Refusal::FewAnswers { n },
+        _ => unreachable!("a call gave {number}, which its promise rules out"),
+    })
+}
+
+/// A table that the program owns. Its words may be any: each call checks them first.
+#[derive(Clone, PartialEq, Eq)]
+pub struct Table(Box<[i32]>);
+
+impl Table {
+    /// The empty table: no root, no points, every slot free. Made here and not proved; `check` grants it.
+    pub fn empty() -> Table {
+        let mut words = vec![0; WORDS];
+        words[0] = -1;
+        (0..SLOTS).for_each(|slot| words[2 + SLOT_WORDS * slot] = -1);
+        Table::of_words(words)
+    }
+
+    pub fn of_words(words: impl Into<Box<[i32]>>) -> Table {
+        Table(words.into())
+    }
+
+    pub fn words(&self) -> &[i32] {
+        &self.0
+    }
+
+    /// Granted exactly if the table is well formed.
+    pub fn check(&self) -> Result<(), Refusal> {
+        granted(lent::check(&self.0), 0)
+    }
+
+    /// Enrols a point at a place. A refusal (1, 2, 3, 4, 6, 7) leaves every word as it was.
+    pub fn enrol(&mut self, number: i32, x: i32, y: i32) -> Result<(), Refusal> {
+        granted(lent::enrol(&mut self.0, number, x, y), 0)
+    }
+
+    /// Withdraws the point with a number. A refusal (1, 2, 3, 8) leaves every word as it was.
+    pub fn withdraw(&mut self, number: i32) -> Result<(), Refusal> {
+        granted(lent::withdraw(&mut self.0, number), 0)
+    }
+
+    /// Lists the points that have fewer than k others strictly nearer than (x, y): `list[..m]` are the candidates in the order found,
+    /// `answers[..n]` the point numbers, rising; the rest of both stays. A refusal (1, 2, 4, 5, 9, 10) leaves both as they were, but for
+    /// `FewAnswers`, which leaves the list as a success would.
+    pub fn query(&self, x: i32, y: i32, k: i32, list: &mut [Candidate], answers: &mut [u32]) -> Result<Counts, Refusal> {
+        let mut row = [0; 3];
+        let number = lent::query(&self.0, x, y, k, list, answers, &mut row);
+        let [n, m, o] = row.map(|count| count as usize);
+        granted(number, n).map(|()| Counts { n, m, o })
+    }
+
+    /// For each i below the least of the three lengths `counts[i]` becomes n of the query at `(xs[i], ys[i])`, 0 where that query is refused;
+    /// the rest stays. The table is checked once, and a refusal (1, 2) leaves every count as it was.
+    pub fn sites(&self, xs: &[i32], ys: &[i32], k: i32, counts: &mut [u32]) -> Result<(), Refusal> {
+        granted(lent::sites(&self.0, xs, ys, k, counts), 0)
+    }
+}
+
+/// The calls over lent rows. Each gives document 01's number.
+///
+/// What makes every call below sound: a pointer and a length come from one Rust slice, so that many elements are behind the pointer, aligned and
+/// never null, and nobody else writes them during the call, nor reads those lent by `&mut`. The library is proved to stay inside the rows and to
+/// keep none of them, and every value that it can store is one of the element's type.
+pub mod lent {
+    use super::Candidate;
+
+    // SAFETY: the signatures are those of crates/export/src/lib.rt, where a slice passes as a pointer and then a length.
+    #[link(name = "export", kind = "static")]
+    unsafe extern "C" {
+        fn ullagreth_check(table: *const i32, table_length: usize) -> u8;
+        fn ullagreth_enrol(table: *mut i32, table_length: usize, number: i32, x: i32, y: i32) -> u8;
+        fn ullagreth_withdraw(table: *mut i32, table_length: usize, number: i32) -> u8;
+        fn ullagreth_query(
+            table: *const i32,
+            table_length: usize,
+            x: i32,
+            y: i32,
+            k: i32,
+            list: *mut Candidate,
+            list_length: usize,
+            answers: *mut u32,
+            answers_length: usize,
+            counts: *mut u64,
+            counts_length: usize,
+        ) -> u8;
+        fn ullagreth_sites(
+            table: *const i32,
+            table_length: usize,
+            xs: *const i32,
+            xs_length: usize,
+            ys: *const i32,
+            ys_length: usize,
+            k: i32,
+            counts: *mut u32,
+            counts_length: usize,
+        ) -> u8;
+    }
+
+    pub fn check(table: &[i32]) -> u8 {
+        // SAFETY: one slice, read only.
+        unsafe { ullagreth_check(table.as_ptr(), table.len()) }
+    }
+
+    pub fn enrol(table: &mut [i32], number: i32, x: i32, y: i32) -> u8 {
+        // SAFETY: one slice, lent to the library alone.
+        unsafe { ullagreth_enrol(table.as_mut_ptr(), table.len(), number, x, y) }
+    }
+
+    pub fn withdraw(table: &mut [i32], number: i32) -> u8 {
+        // SAFETY: one slice, lent to the library alone.
+        unsafe { ullagreth_withdraw(table.as_mut_ptr(), table.len(), number) }
+    }
+
+    /// The first three counts become n, m, o, and zero where the query is refused (but for n of 10); a row of fewer than three stays.
+    pub fn query(table: &[i32], x: i32, y: i32, k: i32, list: &mut [Candidate], answers: &mut [u32], counts: &mut [u64]) -> u8 {
+        // SAFETY: four slices, and the borrows keep the three that are written apart from each other and from the table. `Candidate` is
+        // `repr(C)` with the fields of row::record::Candidate, which is `repr(C)` too.
+        unsafe {
+            ullagreth_query(
+                table.as_ptr(),
+                table.len(),
+                x,
+                y,
+                k,
+                list.as_mut_ptr(),
+                list.len(),
+                answers.as_mut_ptr(),
+                answers.len(),
+                counts.as_mut_ptr(),
+                counts.len(),
+            )
+        }
+    }
+
+    pub fn sites(table: &[i32], xs: &[i32], ys: &[i32], k: i32, counts: &mut [u32]) -> u8 {
+        // SAFETY: four slices, and the borrows keep the one that is written apart from the three that are read.
+        unsafe {
+            ullagreth_sites(
+                table.as_ptr(),
+                table.len(),
+                xs.as_ptr(),
+                xs.len(),
+                ys.as_ptr(),
+                ys.len(),
+                k,
+                counts.as_mut_ptr(),
+                counts.len(),
+            )
+        }
+    }
+}
