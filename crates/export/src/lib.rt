@@ -6,8 +6,13 @@ ghost use Rattle.audit.specs.Check.{checkGives};
 ghost use Rattle.desk.specs.Refusals.{site, enrolGives, withdrawGives};
 ghost use Rattle.desk.specs.Calls.{afterEnrol, afterWithdraw};
 ghost use Rattle.export.specs.Told.{countsLaid, Told};
+ghost use Rattle.export.specs.Sites.{sitesAfter};
+
+mod sites;
+
 use desk::query::Answered;
 use row::record::Candidate;
+use table::given::Given;
 use table::given::number_given;
 
 // The table check.
@@ -70,4 +75,27 @@ pub extern "C" fn ullagreth_query(
 {
     let a = desk::query::query(table, x, y, k, list, answers);
     told(a, counts)
+}
+
+// The numbers of answers of many places, for one check of the table: a place whose query is refused gets 0.
+#[no_mangle]
+pub extern "C" fn ullagreth_sites(
+    table: &[i32],
+    xs: &[i32],
+    ys: &[i32],
+    k: i32,
+    counts: &mut [u32],
+) -> u8
+    ensures given { λ r. ⌜ r ≡ numberGiven (checkGives (now (table .entry))) ⌝ }
+    ensures counts { λ _.
+        ⌜
+        now (counts .exit) ≡ sitesAfter (now (table .entry)) k (now (xs .entry)) (now (ys .entry)) (now (counts .entry))
+        ⌝ }
+{
+    let given = desk::check::check(table);
+    let Given::Done = given else {
+        return number_given(given);
+    };
+    sites::count_all(table, xs, ys, k, counts);
+    number_given(given)
 }
