@@ -194,14 +194,12 @@ fn queries(seeds: u64) {
             assert_eq!(l, want, "seed {seed}");
             calls += 1;
         }
-        #[cfg(sites)]
         many_sites(&mut r, &t, seed);
     }
     println!("queries: {calls} calls agree in every word of both lists");
 }
 
 /// One call for many sites, in rows of several lengths: n of each query, 0 where it is refused, and the counts behind stay.
-#[cfg(sites)]
 fn many_sites(r: &mut Random, t: &Table, seed: u64) {
     let (mut xs, mut ys): (Vec<i32>, Vec<i32>) = (0..r.between(1, 12)).map(|_| r.place(seed)).unzip();
     if r.below(4) == 0 {
@@ -247,12 +245,10 @@ fn bench() {
     });
     println!("check of a full table: {:.1} microseconds", 1e6 * s / turns as f64);
 
-    #[cfg(sites)]
     bench_sites(&mut r);
 }
 
 /// One call for all sites on the library's side, and on the second's a query for each; every n must agree.
-#[cfg(sites)]
 fn bench_sites(r: &mut Random) {
     // The scan has no tree: it keeps the holders as a flat list, in the order in which they came.
     let (mut t, mut flat) = (Table::new(), flat::Flat::default());

@@ -346,7 +346,6 @@ static void changes_refused(void)
     SAME(table[1], MOST);
 }
 
-#ifdef SITES
 /* ---- many places at once */
 
 static void many_places(void)
@@ -375,7 +374,6 @@ static void many_places(void)
     SAME(ullagreth_sites(table, WORDS, xs, 5, ys, 4, 1, found, 5), ULLAGRETH_NOT_WELL_FORMED);
     SAME(found[0], MARK);
 }
-#endif
 
 static void try(const char *name, void (*cases)(void))
 {
@@ -392,9 +390,7 @@ int main(void)
     try("tables refused", tables_refused);
     try("queries refused", queries_refused);
     try("changes refused", changes_refused);
-#ifdef SITES
     try("many places", many_places);
-#endif
     if (failures > 0) {
         printf("the C header: %d of %d checks failed\n", failures, checks);
         return 1;

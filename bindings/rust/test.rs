@@ -274,7 +274,6 @@ fn numbers(t: &mut Tally) {
 
 // ---- many places at once
 
-#[cfg(sites)]
 fn many_places(t: &mut Tally) {
     let (table, _) = nine();
     let (xs, ys) = ([-10, EDGE + 1, 35, 0, 7], [0, 0, 0, -EDGE - 1]);
@@ -309,7 +308,6 @@ fn main() {
     queries_refused(&mut t);
     changes_refused(&mut t);
     numbers(&mut t);
-    #[cfg(sites)]
     many_places(&mut t);
     if t.failed > 0 {
         println!("the Rust wrapper: {} of {} checks failed", t.failed, t.checks);
