@@ -16,14 +16,7 @@ use filter::test::passes;
 
 // If the candidate passes, its number goes to place n of `kept`; gives back the next free place.
 // `near` of the candidates are nearer to it than the query's place is. It is at most one of them: if they are more than k, k others are nearer, and the tree need not be asked.
-fn noted(
-    table: &[i32],
-    c: Candidate,
-    near: usize,
-    k: usize,
-    kept: &mut [u32],
-    n: usize,
-) -> usize
+fn noted(table: &[i32], c: Candidate, near: usize, k: usize, kept: &mut [u32], n: usize) -> usize
     requires { ⌜ Checked (now table) × (isPoint (entryOf c) ≡ true) × (n < length (now kept)) × (k < near → passesAs (now table) k c ≡ false) ⌝ }
     ensures { λ r.
         ⌜
