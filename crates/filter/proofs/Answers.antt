@@ -1,5 +1,6 @@
 -- The answers of the walk are the stations that answer: a point that is no candidate has k candidates nearer, and these are others. Assumes nothing.
-use Prim.Native.Nat.{ℕ, _-_, _≤_, _<_, _^_}
+use Prim.Native.Nat.{ℕ, _+_, _-_, _≤_, _<_, _^_}
+use native.Mathlib.Decide.{decLt}
 use native.Mathlib.Omega.{arith}
 use mathlib.Core.Path.{_≡_, refl, sym, ap, subst, _∙_}
 use mathlib.Core.Bool.{Bool, true, false}
@@ -7,7 +8,7 @@ use mathlib.Core.List.{List, [], _∷_, _++_, map, map-append, Memᴰ·map, Mem�
 use lib.Dec.{eqb}
 use lib.IntN.{ℤ, pos, negsuc}
 use lib.ListN.{length}
-use borrow.Author.Tests.{eqb-true, ne-eqb, le-ltb}
+use borrow.Author.Tests.{eqb-true, eqb-false, eq-eqb, ne-eqb, le-ltb}
 use Rattle.axis.specs.Word.{IsWord, natOf}
 use Rattle.grid.specs.Site.{Site, placeOf, distance²}
 use Rattle.grid.specs.Nearer.{nearer, nearerTo}
@@ -17,7 +18,7 @@ use Rattle.grid.proofs.Site.{SiteWords, SiteOnGrid, site-words, dist-sites}
 use Rattle.order.specs.Lists.{count, one, filter, every, join, Mem, All, NoDup}
 use Rattle.order.specs.Order.{Perm, ptrans}
 use Rattle.order.proofs.Perm.{psym, perm-map}
-use Rattle.order.proofs.Lists.{count-append, perm-count, all-mem, mem-all, all-perm, perm-nodup}
+use Rattle.order.proofs.Lists.{by-bool, count-append, perm-count, count-mem, all-mem, mem-all, all-perm, perm-nodup}
 use Rattle.table.specs.declared.node.Entry.{Entry}
 use Rattle.table.specs.Words.{Words, word, isMinusOne, pointsOf, partAt}
 use Rattle.table.specs.Page.{pageOf}
@@ -66,6 +67,29 @@ count-into : {A B : Type 0} (P : A → Bool) (Q : B → Bool) (f : A → B) (xs 
 count-into P Q f [] h = omega arith
 count-into P Q f (x ∷ xs) h = omega (arith, one-into (P x) (Q (f x)) (h .0), count-into P Q f xs (h .1))
 
+-- each that passes P passes Q, but for those that R excepts
+one-but : (a b c : Bool) → (a ≡ true → c ≡ false → b ≡ true) → one a ≤ one b + one c
+one-but true b true h = omega arith
+one-but true b false h = rw (h refl refl) (omega arith)
+one-but false b c h = omega arith
+
+count-but : {A B C : Type 0} (P : A → Bool) (Q : B → Bool) (R : C → Bool) (f : A → B) (g : A → C) (xs : List A)
+    → All (λ x. P x ≡ true → R (g x) ≡ false → Q (f x) ≡ true) xs → count P xs ≤ count Q (map f xs) + count R (map g xs)
+count-but P Q R f g [] h = omega arith
+count-but P Q R f g (x ∷ xs) h = omega (arith, one-but (P x) (Q (f x)) (R (g x)) (h .0), count-but P Q R f g xs (h .1))
+
+-- where no number stands twice, each stands at most once
+once-most : (n : ℕ) (ns : List ℕ) → NoDup ns → count (eqb n) ns ≤ 1
+once-most n [] d = omega arith
+once-most n (m ∷ ns) d =
+    let in-rest : 1 ≤ count (eqb n) ns → Mem n ns = count-mem eqb eqb-true (λ a. eq-eqb a a refl) n ns in
+    by-bool (λ t. one t + count (eqb n) ns ≤ 1) (eqb n m)
+    (λ e. elim (decLt (count (eqb n) ns) 1) [
+      | yes h ↦ omega arith
+      | no h ↦ absurd (d .0 (Memᴰ·cast (sym (eqb-true n m e)) (in-rest (omega arith))))
+    ])
+    (λ e. omega (arith, once-most n ns (d .1)))
+
 abbrev pub numberOf : Entry → ℕ
 numberOf e = e .reference
 
@@ -90,6 +114,21 @@ module _ (q : Site) (g : SiteOnGrid q) (k : ℕ) where
       (all-mem (λ c. nearerTo (spotIn e) (spotIn c) (placeOf q) ≡ true → near (stationOfEntry c) ≡ true) b
       (λ c mc. other-nearer c e (mem-all Point (b ++ rest) ps (Memᴰ·append-left rest mc)) pe (apart c mc))) in
       le-ltb (count near all) k (omega (arith, perm-count p near, ap (count near) (map-append stationOfEntry b rest), count-append near (map stationOfEntry b) (map stationOfEntry rest)))
+
+  -- a point with more than k candidates nearer does not answer: at most one of these is the point itself. It does not matter whether a point is nearer to itself.
+  crowded-out : (all : List Station) (b rest : List Entry) → Perm all (map stationOfEntry (b ++ rest)) → All Point (b ++ rest)
+      → NoDup (map numberOf (b ++ rest)) → (e : Entry) → Point e → k < count (λ c. nearerTo (spotIn e) (spotIn c) (placeOf q)) b
+      → answersTo all q k (stationOfEntry e) ≡ false
+  unfolding answersTo
+  crowded-out all b rest p ps d e pe h =
+      let near = nearerOther q (stationOfEntry e) in
+      let once : NoDup (map numberOf b) = nodup-left (map numberOf b) (map numberOf rest) (rw (map-append numberOf b rest) at d) in
+      let least : count (λ c. nearerTo (spotIn e) (spotIn c) (placeOf q)) b ≤ count near (map stationOfEntry b) + count (eqb (e .reference)) (map numberOf b) =
+      count-but (λ c. nearerTo (spotIn e) (spotIn c) (placeOf q)) near (eqb (e .reference)) stationOfEntry numberOf b
+      (all-mem (λ c. nearerTo (spotIn e) (spotIn c) (placeOf q) ≡ true → eqb (e .reference) (c .reference) ≡ false → near (stationOfEntry c) ≡ true) b
+      (λ c mc t ne. other-nearer c e (mem-all Point (b ++ rest) ps (Memᴰ·append-left rest mc)) pe (λ s. eqb-false (e .reference) (c .reference) ne (sym s)) t)) in
+      le-ltb (count near all) k
+      (omega (arith, once-most (e .reference) (map numberOf b) once, perm-count p near, ap (count near) (map-append stationOfEntry b rest), count-append near (map stationOfEntry b) (map stationOfEntry rest)))
 
 -- ---- a walk from nothing over all points
 
@@ -129,6 +168,10 @@ module _ (q : Site) (g : SiteOnGrid q) (k : ℕ) (all : List Station) (S : List 
   unfolding answer
   answers-all = rising-same (perm-map (λ (p : Station). p .number) (psym kept))
 
+  pub crowded : (e : Entry) → Point e → k < count (λ c. nearerTo (spotIn e) (spotIn c) (placeOf q)) (b .candidates) → answersTo all q k (stationOfEntry e) ≡ false
+  crowded e pe h =
+      crowded-out q g k all (b .candidates) (f .rest) flat-found (all-perm Point split-found ps) (perm-nodup (perm-map numberOf (psym split-found)) d) e pe h
+
 -- ---- a table that holds a tree
 
 module _ (ws : Words) (l : ℕ) (t : Tree l) (h : Holds ws l t) (s : Sound l t) (q : Site) (g : SiteOnGrid q) (k : ℕ) where
@@ -148,6 +191,11 @@ module _ (ws : Words) (l : ℕ) (t : Tree l) (h : Holds ws l t) (s : Sound l t) 
   unfolding answersFound
   answers-right =
       answers-all q g k (stations ws) (leavesOf l t) (slotsOf l t) (found ws q k) found-step (held-stations h s) points (s .once)
+
+  -- a point with more than k candidates nearer does not answer
+  pub candidates-crowded : (e : Entry) → Point e → k < count (λ c. nearerTo (spotIn e) (spotIn c) (placeOf q)) (found ws q k .candidates)
+      → answersTo (stations ws) q k (stationOfEntry e) ≡ false
+  candidates-crowded = crowded q g k (stations ws) (leavesOf l t) (slotsOf l t) (found ws q k) found-step (held-stations h s) points (s .once)
 
   -- no more candidates than points
   pub candidates-few : length (found ws q k .candidates) ≤ length (leavesOf l t)
@@ -223,6 +271,13 @@ module _ (ws : Words) (long : length ws ≡ LENGTH) (fits : All IsWord ws) (w : 
       (λ e.
       let t = well-formed-tree ws long fits w e in
       omega (arith, candidates-few ws (t .level) (t .tree) (t .holds) (t .sound) q g k, held-points (t .holds)))
+
+  -- a point with more than k candidates nearer does not answer
+  pub found-crowded : (e : Entry) → isPoint e ≡ true → k < count (λ c. nearerTo (spotIn e) (spotIn c) (placeOf q)) (found ws q k .candidates)
+      → answersTo (stations ws) q k (stationOfEntry e) ≡ false
+  found-crowded e p h =
+      by-test (isEmpty ws) (λ n. absurd (omega (arith, h, ap (λ (b : Found). count (λ c. nearerTo (spotIn e) (spotIn c) (placeOf q)) (b .candidates)) (found-empty ws n q k))))
+      (λ n. let t = well-formed-tree ws long fits w n in candidates-crowded ws (t .level) (t .tree) (t .holds) (t .sound) q g k e (point e p) h)
 
   -- the answers are those of the meaning
   pub query-right : answersFound ws q k ≡ answer (stations ws) q k

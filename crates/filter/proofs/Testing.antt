@@ -67,7 +67,7 @@ module _ (ws : Words) (number : ℕ) (p : Place) (far k : ℕ) where
 
 -- ---- it is the test of the meaning
 
-count-same : {A : Type 0} (P Q : A → Bool) (xs : List A) → All (λ x. P x ≡ Q x) xs → count P xs ≡ count Q xs
+pub count-same : {A : Type 0} (P Q : A → Bool) (xs : List A) → All (λ x. P x ≡ Q x) xs → count P xs ≡ count Q xs
 count-same P Q [] h = refl
 count-same P Q (x ∷ xs) h = omega (arith, ap one (h .0), count-same P Q xs (h .1))
 

@@ -25,7 +25,7 @@ pub fn place_at(xs: &[i32], ys: &[i32], i: usize) -> Place
 }
 
 // A test as a number: counted so, no branch has to guess which candidates are nearer.
-fn one(test: bool) -> usize
+pub fn one(test: bool) -> usize
     ensures { λ r. ⌜ r ≡ oneOf test ⌝ }
 {
     if test { 1 } else { 0 }

@@ -1,8 +1,8 @@
 -- What the parts of a query are called with, and what they leave: the list holds the records of the candidates found, and those that pass are the answers of the definition. Assumes nothing.
 use Prim.Native.Nat.{ℕ, _≤_, _<_}
 use native.Mathlib.Omega.{arith}
-use mathlib.Core.Path.{_≡_, refl, sym, ap, _∙_}
-use mathlib.Core.Bool.{true, cond, _&&_}
+use mathlib.Core.Path.{_≡_, refl, sym, ap, subst, _∙_}
+use mathlib.Core.Bool.{Bool, true, false, cond, _&&_}
 use mathlib.Core.List.{List, map, map-map}
 use lib.Dec.{leb, eqb}
 use lib.IntN.{pos}
@@ -10,12 +10,13 @@ use lib.ListN.{length, getD, take, drop, length-map, length-append, List·getD-a
 use lib.Seq.{take-at}
 use borrow.Author.Tests.{eqb-true}
 use Rattle.axis.specs.Word.{wordOf, natOf}
+use Rattle.grid.specs.Nearer.{nearer, nearerTo}
 use Rattle.grid.specs.Place.{dist², spotOf}
 use Rattle.grid.specs.Site.{Site, placeOf}
 use Rattle.axis.proofs.Words.{steps-word}
 use Rattle.grid.proofs.Rects.{place-ext}
 use Rattle.grid.proofs.Site.{SiteOnGrid}
-use Rattle.order.specs.Lists.{filter, every, All}
+use Rattle.order.specs.Lists.{filter, every, count, All}
 use Rattle.order.specs.Order.{upFrom}
 use Rattle.order.proofs.Lists.{all-at, map-at}
 use Rattle.order.proofs.Order.{pick-all, up-all}
@@ -37,15 +38,15 @@ use Rattle.filter.specs.Walk.{spotIn}
 use Rattle.filter.specs.Query.{found, recordsFound, answersFound, laidOver}
 use Rattle.filter.specs.Rows.{Rows, laidIn, Room, Noted}
 use Rattle.filter.specs.Test.{passes}
-use Rattle.filter.proofs.Answers.{found-points, found-few}
+use Rattle.filter.proofs.Answers.{found-points, found-few, found-crowded}
 use Rattle.filter.proofs.Rising.{filter-map, filter-same}
-use Rattle.filter.proofs.Rows.{laid-length, map-both, row-at, rows-room}
+use Rattle.filter.proofs.Rows.{count-map, laid-length, map-both, row-at, rows-room}
 use Rattle.filter.proofs.Turns.{room-less}
 use Rattle.filter.proofs.Listing.{rising-length}
-use Rattle.filter.proofs.Testing.{passes-answers}
+use Rattle.filter.proofs.Testing.{count-same, passes-answers}
 use Rattle.row.specs.declared.record.Candidate.{Candidate}
 use Rattle.row.specs.Records.{none, recordsOf, candidateIn, candidatesIn}
-use Rattle.row.specs.Tested.{entryOf, passesAs, numbersPassing, Checked, Keepable}
+use Rattle.row.specs.Tested.{entryOf, passesAs, nearerAs, nearerAmong, numbersPassing, Checked, Keepable}
 use Rattle.row.specs.Asked.{candidateOf, candidatesFound, Filled, Listed}
 
 candidate-ext : {c d : Candidate} → c .number ≡ d .number → c .x ≡ d .x → c .y ≡ d .y → c .square ≡ d .square → c ≡ d
@@ -112,11 +113,31 @@ module _ {ws : Words} (t : Checked ws) where
         entry-ext refl
         (ap spotOf (place-ext (steps-word (e .rect .x .low) (omega (arith, p .x .grid))) (steps-word (e .rect .y .low) (omega (arith, p .y .grid)))) ∙ sym (point-spot p))
 
+    -- what is nearer by the records is nearer by the walk's test
+    near-as : (e : Entry) → isPoint e ≡ true → (c : Entry) → isPoint c ≡ true → nearerAs (candidateOf q e) (candidateOf q c) ≡ nearerTo (spotIn e) (spotIn c) (placeOf q)
+    unfolding nearerAs nearerTo
+    near-as e h c i =
+        ap (λ (d : Entry). nearer (dist² (spotIn d) (spotIn (entryOf (candidateOf q e)))) (dist² (placeOf q) (spotIn e))) (entry-back c i)
+        ∙ ap (λ (d : Entry). nearer (dist² (spotIn c) (spotIn d)) (dist² (placeOf q) (spotIn e))) (entry-back e h)
+
+    near-among : (e : Entry) → isPoint e ≡ true → nearerAmong (candidatesFound ws q k) (candidateOf q e) ≡ count (λ c. nearerTo (spotIn e) (spotIn c) (placeOf q)) (found ws q k .candidates)
+    unfolding nearerAmong candidatesFound
+    near-among e h =
+        let cs = found ws q k .candidates in
+        let near : Entry → Bool = λ c. nearerAs (candidateOf q e) (candidateOf q c) in
+        count-map (nearerAs (candidateOf q e)) (candidateOf q) cs
+        ∙ count-same near (λ c. nearerTo (spotIn e) (spotIn c) (placeOf q)) cs
+        (all-then (λ c. isPoint c ≡ true) (λ c. near c ≡ nearerTo (spotIn e) (spotIn c) (placeOf q)) (near-as e h) cs points)
+
     pass-as : (e : Entry) → isPoint e ≡ true → passesAs ws k (candidateOf q e) ≡ answersTo (stations ws) q k (stationOfEntry e)
     unfolding passesAs
     pass-as e h =
         ap (λ (d : Entry). passes ws (d .reference) (spotIn d) (dist² (placeOf q) (spotIn e)) k) (entry-back e h)
         ∙ passes-answers ws (t .long) (t .words) (t .rules) q g k e h
+
+    -- a record with more than k of them nearer does not pass
+    crowded-as : (e : Entry) → isPoint e ≡ true → k < nearerAmong (candidatesFound ws q k) (candidateOf q e) → passesAs ws k (candidateOf q e) ≡ false
+    crowded-as e h l = pass-as e h ∙ found-crowded ws (t .long) (t .words) (t .rules) q g k e h (omega (arith, l, near-among e h))
 
     -- those that pass, in rising order, are the answers
     pub passing-right : rising (numbersPassing ws k (candidatesFound ws q k)) ≡ answersFound ws q k
@@ -151,14 +172,22 @@ module _ {ws : Words} (t : Checked ws) where
           ∙ List·getD-append (map (candidateOf q) cs) _ none i (omega (arith, length-map cs (candidateOf q), f .candidates))
           ∙ map-at (candidateOf q) cs blankEntry none i (omega (arith, f .candidates))
 
-      pub keepable : (free : ℕ) → MOST ≤ free → Keepable ws list (s .candidates) free
+      point-at : (i : ℕ) → i < s .candidates → isPoint (getD (found ws q k .candidates) i blankEntry) ≡ true
+      point-at i h = all-at (λ e. isPoint e ≡ true) (found ws q k .candidates) i blankEntry (omega (arith, f .candidates)) points
+
+      pub keepable : (free : ℕ) → MOST ≤ free → Keepable ws list k (s .candidates) free
       keepable free h = record {
         table = t;
-        room = omega (arith, long, f .candidates, few);
-        points = λ i l.
-            let cs = found ws q k .candidates in
-            let p = all-at (λ e. isPoint e ≡ true) cs i blankEntry (omega (arith, f .candidates)) points in
-            ap (λ (c : Candidate). isPoint (entryOf c)) (record-back i l) ∙ ap isPoint (entry-back (getD cs i blankEntry) p) ∙ p;
+        list = record {
+          room = omega (arith, long, f .candidates, few);
+          points = λ i l.
+              let e = getD (found ws q k .candidates) i blankEntry in
+              ap (λ (c : Candidate). isPoint (entryOf c)) (record-back i l) ∙ ap isPoint (entry-back e (point-at i l)) ∙ point-at i l;
+        };
+        crowded = λ i l.
+            let e = getD (found ws q k .candidates) i blankEntry in
+            let C : Candidate → Type 0 = λ c. k < nearerAmong (take (s .candidates) list) c → passesAs ws k c ≡ false in
+            subst C (sym (record-back i l)) (λ n. crowded-as e (point-at i l) (subst (λ (cs : List Candidate). k < nearerAmong cs (candidateOf q e)) front n));
         places = omega (arith, f .candidates, few, points-most);
       }
 

@@ -1,32 +1,34 @@
 // The records are read back, and those that pass the final test are kept.
 ghost use mathlib.Core.Path.{_≡_};
-ghost use mathlib.Core.Bool.{true, cond};
+ghost use mathlib.Core.Bool.{true, false, cond};
 ghost use Prim.Native.Nat.{_+_, _<_};
 ghost use lib.ListN.{length, set, take};
 ghost use Rattle.axis.specs.Word.{natOf};
 ghost use Rattle.table.specs.Stations.{isPoint};
 ghost use Rattle.filter.specs.Query.{laidOver};
 ghost use Rattle.row.specs.Tested.{entryOf, passesAs, numbersPassing, Checked, Keepable};
+use crate::near::nearer_in;
+use crate::near::place_of;
 use crate::record::Candidate;
 use crate::record::record_at;
 use axis::border;
 use filter::test::passes;
-use grid::place::Place;
 
 // If the candidate passes, its number goes to place n of `kept`; gives back the next free place.
-fn noted(table: &[i32], c: Candidate, k: usize, kept: &mut [u32], n: usize) -> usize
-    requires { ⌜ Checked (now table) × (isPoint (entryOf c) ≡ true) × (n < length (now kept)) ⌝ }
+// `near` of the candidates are nearer to it than the query's place is. It is at most one of them: if they are more than k, k others are nearer, and the tree need not be asked.
+fn noted(table: &[i32], c: Candidate, near: usize, k: usize, kept: &mut [u32], n: usize) -> usize
+    requires { ⌜ Checked (now table) × (isPoint (entryOf c) ≡ true) × (n < length (now kept)) × (k < near → passesAs (now table) k c ≡ false) ⌝ }
     ensures { λ r.
         ⌜
         (r ≡ cond (passesAs (now (table .entry)) k c) (n + 1) n)
         × (now (kept .exit) ≡ cond (passesAs (now (table .entry)) k c) (set (now (kept .entry)) n (natOf (c .number))) (now (kept .entry)))
         ⌝ }
 {
+    if k < near {
+        return n;
+    }
     let number = border::natural(c.number);
-    let p = Place {
-        x: border::steps(c.x),
-        y: border::steps(c.y),
-    };
+    let p = place_of(c);
     if !passes(table, number, p, c.square, k) {
         return n;
     }
@@ -42,7 +44,7 @@ pub fn keep_passing(
     k: usize,
     kept: &mut [u32],
 ) -> usize
-    requires { ⌜ Keepable (now table) (now list) m (length (now kept)) ⌝ }
+    requires { ⌜ Keepable (now table) (now list) k m (length (now kept)) ⌝ }
     ensures { λ r.
         ⌜
         (r ≡ length (numbersPassing (now (table .entry)) k (take m (now (list .entry)))))
@@ -53,7 +55,8 @@ pub fn keep_passing(
     let mut i = 0;
     while i < m {
         let c = record_at(list, i);
-        n = noted(table, c, k, kept, n);
+        let near = nearer_in(list, m, c);
+        n = noted(table, c, near, k, kept, n);
         i += 1;
     }
     n

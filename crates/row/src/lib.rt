@@ -5,4 +5,5 @@ pub mod answer;
 pub mod fill;
 pub mod hand;
 pub mod keep;
+pub mod near;
 pub mod record;

@@ -184,7 +184,7 @@ module _ {M : Type 1} (𝓤 : URA M) (H : Heap 𝓤) (A : Atoms 𝓤) (W : Given
     abbrev to-keep : Keep 𝓤 H A mem run .Ghost
     to-keep = (((κs .0, (μ ∷ [], (p .0 ∷ [], tt))), (qs .0, (fullShare, (fullShare, tt))), tt, keep-args, (s₁ ∷ [], (s ∷ [], (vint w64 m ∷ [], (vint w64 k ∷ [], (sliceVal (d, 0) 500 ∷ [], tt)))))), tt)
 
-    goes-keep : m < 2 ^ 64 → Keepable ws zs m (length ks)
+    goes-keep : m < 2 ^ 64 → Keepable ws zs k m (length ks)
         → ent 𝓤 (⋆ 𝓤 H A (‵ (flft (κs .0) (qs .0)) ∷ ‵ (flft (μ ∷ []) fullShare) ∷ ‵ (flft (p .0 ∷ []) fullShare) ∷ ‵ Tabled ∷ ‵ (ShrSlice (named 1) (μ ∷ []) R .own (x ε zs) (s ∷ [])) ∷ ‵ (MutSlice (named 2) (p .0 ∷ []) u32 .own (kept-row d p ks) (sliceVal (d, 0) 500 ∷ [])) ∷ [])) (Keep 𝓤 H A mem run .pre to-keep)
     goes-keep gm ask =
         qed W (‵ (flft (κs .0) (qs .0)) ∷ ‵ (flft (μ ∷ []) fullShare) ∷ ‵ (flft (p .0 ∷ []) fullShare) ∷ ‵ Tabled ∷ ‵ (ShrSlice (named 1) (μ ∷ []) R .own (x ε zs) (s ∷ [])) ∷ ‵ (MutSlice (named 2) (p .0 ∷ []) u32 .own (kept-row d p ks) (sliceVal (d, 0) 500 ∷ [])) ∷ []) ∵
@@ -247,8 +247,8 @@ module _ {M : Type 1} (𝓤 : URA M) (H : Heap 𝓤) (A : Atoms 𝓤) (W : Given
         move ! (1 ∷ []) $ lft-end ! tt $ move ! (0 ∷ 7 ∷ 4 ∷ []) $ use3 W (later (‵ (MutSlice (named 1) (κs .1 .0) R .own (x γ zs) (s ∷ [])) ⊛ ‵ (flft (κs .1 .0) (qs .1 .0)))) (comes-back R (κs .1 .0) (ν ∷ []) (qs .1 .0) γ b o 𝓤 H A W (named 1) (named 1) ys δ zs room l) $ await ! tt $ split ! $
         rewrite ! 0 (λ (j : ℕ). ‵ (MutSlice (named 1) (κs .1 .0) R .own (x γ zs) (sliceVal (b, o) j ∷ []))) (sym l) refl $
         let long : length zs < 2 ^ 64 = subst (λ (j : ℕ). j < 2 ^ 64) (sym l) (room .0) in
-        let keeps : (free : ℕ) → 500 ≤ free → Keepable ws zs (seen .candidates) free = keepable (pre .table) q grid k filled (pre .room) in
-        let gm : seen .candidates < 2 ^ 64 = lt-of-le-of-lt (keeps 500 (le-refl 500) .room) long in
+        let keeps : (free : ℕ) → 500 ≤ free → Keepable ws zs k (seen .candidates) free = keepable (pre .table) q grid k filled (pre .room) in
+        let gm : seen .candidates < 2 ^ 64 = lt-of-le-of-lt (keeps 500 (le-refl 500) .list .room) long in
         assigns ! (of-opd ! (load ! (from ! (fld ! refl (stop !))) (look-in ! 31 (sub ! 0 refl (whole !))))) (from ! (stop !)) (init ! 29 refl (tt, record { fits = gm })) $
         -- room for the numbers is made, and lent; the list is lent to be read
         use0 W (raw (Numbers 𝓤 H A mem run .pre for-none)) (asks-nothing 𝓤) $ calls-at ! fm (Numbers 𝓤 H A mem run) known-numbers for-none (no-more !) (λ w₁.
