@@ -1,4 +1,4 @@
-// The table check: rules 1 to 7 of document 01, each a function of its own that may count on the rules before it.
+// The table check: rules 1 to 7 of document 01, each a test of its own that may count on the rules before it. Those of one slot are asked by one loop.
 // It promises, for every slice of words whatever, exactly 1, 2 or 0; and never reads past an end.
 // It stands on table (parts, nodes, slots). Its proofs hold the theorem that a well-formed table stores one sound tree.
 ghost use mathlib.Core.Path.{_≡_};
@@ -22,6 +22,7 @@ pub fn check(table: &[i32]) -> Given
     if table.len() != Table::LENGTH {
         return Given::WrongLength;
     }
+    // No reference is counted before rule 7.
     let uncounted = [0; Table::SLOTS];
     if !rules::every_slot(table, Rule::One, &uncounted) {
         return Given::NotWellFormed;

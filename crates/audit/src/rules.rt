@@ -1,4 +1,4 @@
-// The rules that are asked of one slot after the other, in one loop. Rule 4 has a loop of its own, in numbers: it keeps a map as it goes.
+// The rules that are asked of one slot after the other, in one loop. Rule 4 has its own, in numbers: it marks a map as it goes.
 ghost use mathlib.Core.Path.{_≡_};
 ghost use Prim.Native.Nat.{_<_};
 ghost use lib.ListN.{length};
@@ -12,7 +12,7 @@ use crate::shape;
 use table::figures::Table;
 use table::slot;
 
-// A test of one slot: a rule by its number in document 01, or that the slot is free, which rule 2 asks of an empty table.
+// What is asked of a slot: a rule, by its number in document 01, or that it is free, which rule 2 asks of an empty table.
 pub enum Rule {
     Free,
     One,
@@ -22,7 +22,7 @@ pub enum Rule {
     Seven,
 }
 
-// `times` says how often each slot is referred to. Rule 7 alone reads it: for the others any numbers will do.
+// One rule at one slot. `times` says how often each slot is referred to: rule 7 alone reads it, so it is counted only for that rule.
 pub fn holds_at(table: &[i32], rule: Rule, slot: usize, times: &[usize; Table::SLOTS]) -> bool
     requires { ⌜ (length (now table) ≡ LENGTH) × (slot < SLOTS) × Before rule (now table) (now times) ⌝ }
     ensures { λ r. ⌜ r ≡ ruleAt rule (now (table .entry)) slot ⌝ }
@@ -37,8 +37,8 @@ pub fn holds_at(table: &[i32], rule: Rule, slot: usize, times: &[usize; Table::S
     }
 }
 
-// Whether a rule holds at every slot. The loop stops at the lowest slot where it does not:
-// to say where a table is bad, give back `slot` here, and Table::SLOTS at the end.
+// One rule at every slot. The loop stops at the lowest slot where the rule is broken. Document 02, section 4, asks which that is:
+// then `slot` is given back for false and Table::SLOTS for true, here and in numbers::rule4_holds.
 pub fn every_slot(table: &[i32], rule: Rule, times: &[usize; Table::SLOTS]) -> bool
     requires { ⌜ (length (now table) ≡ LENGTH) × Before rule (now table) (now times) ⌝ }
     ensures { λ r. ⌜ r ≡ every (ruleAt rule (now (table .entry))) slots ⌝ }

@@ -78,9 +78,6 @@ past5 c = past4 (c .before .before .before)
 abbrev past6 : tie.Else7 → tie.Else1
 past6 c = past5 (c .before .before .before)
 
-abbrev past7 : tie.Else8 → tie.Else1
-past7 c = past6 (c .before .before)
-
 every-slot-requires : tie.Need-every-slot-requires
 every-slot-requires c κs = search needs
 
