@@ -1,3 +1,4 @@
 pub mod Rules
 pub mod Check
 pub mod Seen
+pub mod Asked

@@ -3,9 +3,7 @@ ghost use mathlib.Core.Path.{_≡_};
 ghost use mathlib.Core.Bool.{true};
 ghost use Prim.Native.Nat.{_<_};
 ghost use lib.ListN.{length};
-ghost use Rattle.order.specs.Lists.{every};
 ghost use Rattle.table.specs.Figures.{SLOTS, LENGTH};
-ghost use Rattle.table.specs.Slots.{slots};
 ghost use Rattle.audit.specs.Rules.{isAbove, isChild, sameSpan, sameRect, rule5, rule6};
 use axis::span::Span;
 use grid::rect::Rect;
@@ -63,20 +61,6 @@ pub fn rule5_at(table: &[i32], slot: usize) -> bool
     true
 }
 
-pub fn rule5_holds(table: &[i32]) -> bool
-    requires { ⌜ length (now table) ≡ LENGTH ⌝ }
-    ensures { λ r. ⌜ r ≡ every (rule5 (now (table .entry))) slots ⌝ }
-{
-    let mut slot = 0;
-    while slot < Table::SLOTS {
-        if !rule5_at(table, slot) {
-            return false;
-        }
-        slot += 1;
-    }
-    true
-}
-
 fn same_span(s: Span, t: Span) -> bool
     ensures { λ r. ⌜ r ≡ sameSpan s t ⌝ }
 {
@@ -113,20 +97,6 @@ pub fn rule6_at(table: &[i32], slot: usize) -> bool
             return false;
         }
         i += 1;
-    }
-    true
-}
-
-pub fn rule6_holds(table: &[i32]) -> bool
-    requires { ⌜ (length (now table) ≡ LENGTH) × (every (rule5 (now table)) slots ≡ true) ⌝ }
-    ensures { λ r. ⌜ r ≡ every (rule6 (now (table .entry))) slots ⌝ }
-{
-    let mut slot = 0;
-    while slot < Table::SLOTS {
-        if !rule6_at(table, slot) {
-            return false;
-        }
-        slot += 1;
     }
     true
 }

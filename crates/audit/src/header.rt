@@ -1,28 +1,14 @@
 // Rule 2: the two header words.
 ghost use mathlib.Core.Path.{_≡_};
 ghost use lib.ListN.{length};
-ghost use Rattle.order.specs.Lists.{every};
 ghost use Rattle.table.specs.Figures.{LENGTH};
-ghost use Rattle.table.specs.Slots.{slots, isFree};
 ghost use Rattle.audit.specs.Rules.{isEmpty, rule2};
+use crate::rules;
+use crate::rules::Rule;
 use axis::border;
 use table::figures::Table;
 use table::part;
 use table::slot;
-
-pub fn all_free(table: &[i32]) -> bool
-    requires { ⌜ length (now table) ≡ LENGTH ⌝ }
-    ensures { λ r. ⌜ r ≡ every (isFree (now (table .entry))) slots ⌝ }
-{
-    let mut slot = 0;
-    while slot < Table::SLOTS {
-        if !slot::is_free(table, slot) {
-            return false;
-        }
-        slot += 1;
-    }
-    true
-}
 
 // The empty table: root −1, points 0, all slots free.
 pub fn is_empty(table: &[i32]) -> bool
@@ -35,7 +21,8 @@ pub fn is_empty(table: &[i32]) -> bool
     if slot::points_of(table) != 0 {
         return false;
     }
-    all_free(table)
+    let uncounted = [0; Table::SLOTS];
+    rules::every_slot(table, Rule::Free, &uncounted)
 }
 
 // Rule 2: empty, or the root is a used slot and points are 1 to 500.

@@ -1,4 +1,4 @@
-// The table check: rules 1 to 7 of document 01, each a function of its own that may count on the rules before it.
+// The table check: rules 1 to 7 of document 01, each a test of its own that may count on the rules before it. Those of one slot are asked by one loop.
 // It promises, for every slice of words whatever, exactly 1, 2 or 0; and never reads past an end.
 // It stands on table (parts, nodes, slots). Its proofs hold the theorem that a well-formed table stores one sound tree.
 ghost use mathlib.Core.Path.{_≡_};
@@ -8,8 +8,10 @@ pub mod children;
 pub mod header;
 pub mod numbers;
 pub mod references;
+pub mod rules;
 pub mod shape;
 
+use rules::Rule;
 use table::figures::Table;
 use table::given::Given;
 
@@ -20,22 +22,24 @@ pub fn check(table: &[i32]) -> Given
     if table.len() != Table::LENGTH {
         return Given::WrongLength;
     }
-    if !shape::rule1_holds(table) {
+    // No reference is counted before rule 7.
+    let uncounted = [0; Table::SLOTS];
+    if !rules::every_slot(table, Rule::One, &uncounted) {
         return Given::NotWellFormed;
     }
     if !header::rule2_holds(table) {
         return Given::NotWellFormed;
     }
-    if !shape::rule3_holds(table) {
+    if !rules::every_slot(table, Rule::Three, &uncounted) {
         return Given::NotWellFormed;
     }
     if !numbers::rule4_holds(table) {
         return Given::NotWellFormed;
     }
-    if !children::rule5_holds(table) {
+    if !rules::every_slot(table, Rule::Five, &uncounted) {
         return Given::NotWellFormed;
     }
-    if !children::rule6_holds(table) {
+    if !rules::every_slot(table, Rule::Six, &uncounted) {
         return Given::NotWellFormed;
     }
     if !references::rule7_holds(table) {

@@ -13,6 +13,8 @@ ghost use Rattle.table.specs.Stations.{stationsAt, stations};
 ghost use Rattle.audit.specs.Rules.{refsAt, rule5, rule7, rule7Header};
 ghost use Rattle.audit.specs.Seen.{refsOf, Tally};
 use crate::children;
+use crate::rules;
+use crate::rules::Rule;
 use table::figures::Table;
 use table::node::Node;
 use table::slot;
@@ -72,7 +74,7 @@ pub fn leaf_entries(table: &[i32]) -> usize
 }
 
 // Each used slot but the root is referred to once; the root never.
-fn rule7_at(table: &[i32], slot: usize, times: &[usize; Table::SLOTS]) -> bool
+pub fn rule7_at(table: &[i32], slot: usize, times: &[usize; Table::SLOTS]) -> bool
     requires { ⌜ (length (now table) ≡ LENGTH) × (slot < SLOTS) × Tally (now times) (join (refsAt (now table)) slots) ⌝ }
     ensures { λ r. ⌜ r ≡ rule7 (now (table .entry)) slot ⌝ }
 {
@@ -83,20 +85,6 @@ fn rule7_at(table: &[i32], slot: usize, times: &[usize; Table::SLOTS]) -> bool
         return times[slot] == 0;
     }
     times[slot] == 1
-}
-
-fn referred_once(table: &[i32], times: &[usize; Table::SLOTS]) -> bool
-    requires { ⌜ (length (now table) ≡ LENGTH) × Tally (now times) (join (refsAt (now table)) slots) ⌝ }
-    ensures { λ r. ⌜ r ≡ every (rule7 (now (table .entry))) slots ⌝ }
-{
-    let mut slot = 0;
-    while slot < Table::SLOTS {
-        if !rule7_at(table, slot, times) {
-            return false;
-        }
-        slot += 1;
-    }
-    true
 }
 
 pub fn rule7_holds(table: &[i32]) -> bool
@@ -112,5 +100,5 @@ pub fn rule7_holds(table: &[i32]) -> bool
         count_at(table, slot, &mut times);
         slot += 1;
     }
-    referred_once(table, &times)
+    rules::every_slot(table, Rule::Seven, &times)
 }

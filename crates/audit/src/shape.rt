@@ -5,7 +5,6 @@ ghost use lib.ListN.{length, drop};
 ghost use Rattle.order.specs.Lists.{every};
 ghost use Rattle.table.specs.Figures.{SLOTS, LENGTH};
 ghost use Rattle.table.specs.Words.{isZero};
-ghost use Rattle.table.specs.Slots.{slots};
 ghost use Rattle.audit.specs.Rules.{rule1, rule3, leastFill};
 use axis::border;
 use table::figures::Table;
@@ -44,20 +43,6 @@ pub fn rule1_at(table: &[i32], slot: usize) -> bool
     zeros_from(words, 2 + Table::ENTRY * part::filled_part(words))
 }
 
-pub fn rule1_holds(table: &[i32]) -> bool
-    requires { ⌜ length (now table) ≡ LENGTH ⌝ }
-    ensures { λ r. ⌜ r ≡ every (rule1 (now (table .entry))) slots ⌝ }
-{
-    let mut slot = 0;
-    while slot < Table::SLOTS {
-        if !rule1_at(table, slot) {
-            return false;
-        }
-        slot += 1;
-    }
-    true
-}
-
 // The least entries of a used slot: a root leaf 1, a root above 2, any other node 3.
 pub fn least_fill(table: &[i32], slot: usize) -> usize
     requires { ⌜ (length (now table) ≡ LENGTH) × (slot < SLOTS) ⌝ }
@@ -90,18 +75,4 @@ pub fn rule3_at(table: &[i32], slot: usize) -> bool
         return false;
     }
     said <= Table::FAN
-}
-
-pub fn rule3_holds(table: &[i32]) -> bool
-    requires { ⌜ length (now table) ≡ LENGTH ⌝ }
-    ensures { λ r. ⌜ r ≡ every (rule3 (now (table .entry))) slots ⌝ }
-{
-    let mut slot = 0;
-    while slot < Table::SLOTS {
-        if !rule3_at(table, slot) {
-            return false;
-        }
-        slot += 1;
-    }
-    true
 }

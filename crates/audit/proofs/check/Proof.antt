@@ -59,102 +59,109 @@ returns : tie.Need-returns
 unfolding checkGives
 returns c = rw (ne-eqb (length (c .before .args .table .now)) LENGTH (c .if1 .taken))
 
-rule1-holds-requires : tie.Need-rule1-holds-requires
-rule1-holds-requires c κs = search needs
+-- the place where the length was found right, from where each rule had passed
+abbrev past1 : tie.Else2 → tie.Else1
+past1 c = c .before .before .before
+
+abbrev past2 : tie.Else3 → tie.Else1
+past2 c = past1 (c .before .before)
+
+abbrev past3 : tie.Else4 → tie.Else1
+past3 c = past2 (c .before .before .before)
+
+abbrev past4 : tie.Else5 → tie.Else1
+past4 c = past3 (c .before .before)
+
+abbrev past5 : tie.Else6 → tie.Else1
+past5 c = past4 (c .before .before .before)
+
+abbrev past6 : tie.Else7 → tie.Else1
+past6 c = past5 (c .before .before .before)
+
+every-slot-requires : tie.Need-every-slot-requires
+every-slot-requires c κs = search needs
 
 returns-2 : tie.Need-returns-2
 returns-2 c =
-    let ws = c .before .before .before .args .table .now in
-    refused ws (c .before .before .if1 .left) 0 (omega arith) (failed (c .before .rule1-holds .ensures) (c .if2 .taken))
+    let s = c .before .before .before in
+    refused (s .before .args .table .now) (s .if1 .left) 0 (omega arith) (failed (c .before .every-slot .ensures) (c .if2 .taken))
 
 rule2-holds-requires : tie.Need-rule2-holds-requires
 rule2-holds-requires c κs = search needs
 
 returns-3 : tie.Need-returns-3
 returns-3 c =
-    let ws = c .before .before .before .before .before .args .table .now in
-    refused ws (c .before .before .before .before .if1 .left) 1 (omega arith) (failed (c .before .rule2-holds .ensures) (c .if3 .taken))
+    let s = past1 (c .before .before) in
+    refused (s .before .args .table .now) (s .if1 .left) 1 (omega arith) (failed (c .before .rule2-holds .ensures) (c .if3 .taken))
 
-rule3-holds-requires : tie.Need-rule3-holds-requires
-rule3-holds-requires c κs = search needs
+every-slot-requires-2 : tie.Need-every-slot-requires-2
+every-slot-requires-2 c κs = search needs
 
 returns-4 : tie.Need-returns-4
 returns-4 c =
-    let ws = c .before .before .before .before .before .before .before .args .table .now in
-    refused ws (c .before .before .before .before .before .before .if1 .left) 2 (omega arith) (failed (c .before .rule3-holds .ensures) (c .if4 .taken))
+    let s = past2 (c .before .before .before) in
+    refused (s .before .args .table .now) (s .if1 .left) 2 (omega arith) (failed (c .before .every-slot2 .ensures) (c .if4 .taken))
 
 rule4-holds-requires : tie.Need-rule4-holds-requires
 rule4-holds-requires c κs = search needs
 
 returns-5 : tie.Need-returns-5
 returns-5 c =
-    let ws = c .before .before .before .before .before .before .before .before .before .args .table .now in
-    refused ws (c .before .before .before .before .before .before .before .before .if1 .left) 3 (omega arith) (failed (c .before .rule4-holds .ensures) (c .if5 .taken))
+    let s = past3 (c .before .before) in
+    refused (s .before .args .table .now) (s .if1 .left) 3 (omega arith) (failed (c .before .rule4-holds .ensures) (c .if5 .taken))
 
-rule5-holds-requires : tie.Need-rule5-holds-requires
-rule5-holds-requires c κs = search needs
+every-slot-requires-3 : tie.Need-every-slot-requires-3
+every-slot-requires-3 c κs = search needs
 
 returns-6 : tie.Need-returns-6
 returns-6 c =
-    let ws = c .before .before .before .before .before .before .before .before .before .before .before .args .table .now in
-    refused ws (c .before .before .before .before .before .before .before .before .before .before .if1 .left) 4 (omega arith) (failed (c .before .rule5-holds .ensures) (c .if6 .taken))
+    let s = past4 (c .before .before .before) in
+    refused (s .before .args .table .now) (s .if1 .left) 4 (omega arith) (failed (c .before .every-slot3 .ensures) (c .if6 .taken))
 
-rule6-holds-requires : tie.Need-rule6-holds-requires
-rule6-holds-requires c κs = (omega arith, passed (c .before .rule5-holds .ensures) (c .if6 .left))
+every-slot-requires-4 : tie.Need-every-slot-requires-4
+every-slot-requires-4 c κs = (omega arith, passed (c .before .before .every-slot3 .ensures) (c .before .if6 .left))
 
 returns-7 : tie.Need-returns-7
 returns-7 c =
-    let ws = c .before .before .before .before .before .before .before .before .before .before .before .before .before .args .table .now in
-    refused ws (c .before .before .before .before .before .before .before .before .before .before .before .before .if1 .left) 5 (omega arith) (failed (c .before .rule6-holds .ensures) (c .if7 .taken))
+    let s = past5 (c .before .before .before) in
+    refused (s .before .args .table .now) (s .if1 .left) 5 (omega arith) (failed (c .before .every-slot4 .ensures) (c .if7 .taken))
 
 rule7-holds-requires : tie.Need-rule7-holds-requires
-rule7-holds-requires c κs =
-    (omega arith, passed (c .before .before .before .rule5-holds .ensures) (c .before .before .if6 .left))
+rule7-holds-requires c κs = (omega arith, passed (c .before .before .before .before .every-slot3 .ensures) (c .before .before .before .if6 .left))
 
 returns-8 : tie.Need-returns-8
 returns-8 c =
-    let ws = c .before .before .before .before .before .before .before .before .before .before .before .before .before .before .before .args .table .now in
-    refused ws (c .before .before .before .before .before .before .before .before .before .before .before .before .before .before .if1 .left) 6 (omega arith) (failed (c .before .rule7-holds .ensures) (c .if8 .taken))
+    let s = past6 (c .before .before) in
+    refused (s .before .args .table .now) (s .if1 .left) 6 (omega arith) (failed (c .before .rule7-holds .ensures) (c .if8 .taken))
 
 returns-9 : tie.Need-returns-9
 returns-9 c =
-    let ws = c .before .before .before .before .before .before .before .before .before .before .before .before .before .before .before .args .table .now in
-    granted ws (c .before .before .before .before .before .before .before .before .before .before .before .before .before .before .if1 .left) (
-      passed (c .before .before .before .before .before .before .before .before .before .before .before .before .before .rule1-holds .ensures) (c .before .before .before .before .before .before .before .before .before .before .before .before .if2 .left),
-      (
-        passed (c .before .before .before .before .before .before .before .before .before .before .before .rule2-holds .ensures) (c .before .before .before .before .before .before .before .before .before .before .if3 .left),
-        (
-          passed (c .before .before .before .before .before .before .before .before .before .rule3-holds .ensures) (c .before .before .before .before .before .before .before .before .if4 .left),
-          (
-            passed (c .before .before .before .before .before .before .before .rule4-holds .ensures) (c .before .before .before .before .before .before .if5 .left),
-            (
-              passed (c .before .before .before .before .before .rule5-holds .ensures) (c .before .before .before .before .if6 .left),
-              (
-                passed (c .before .before .before .rule6-holds .ensures) (c .before .before .if7 .left),
-                (passed (c .before .rule7-holds .ensures) (c .if8 .left), tt),
-              ),
-            ),
-          ),
-        ),
-      ),
-    )
+    let c6 = c .before .before in
+    let c5 = c6 .before .before .before in
+    let c4 = c5 .before .before .before in
+    let c3 = c4 .before .before in
+    let c2 = c3 .before .before .before in
+    let c1 = c2 .before .before in
+    let s = past1 c1 in
+    granted (s .before .args .table .now) (s .if1 .left)
+    (passed (c1 .before .every-slot .ensures) (c1 .if2 .left), (passed (c2 .before .rule2-holds .ensures) (c2 .if3 .left), (passed (c3 .before .every-slot2 .ensures) (c3 .if4 .left), (passed (c4 .before .rule4-holds .ensures) (c4 .if5 .left), (passed (c5 .before .every-slot3 .ensures) (c5 .if6 .left), (passed (c6 .before .every-slot4 .ensures) (c6 .if7 .left), (passed (c .before .rule7-holds .ensures) (c .if8 .left), tt)))))))
 
 pub check-spec : {M : Type 1} → statement M
 check-spec =
     tie.close
     (tie.spec
     returns
-    rule1-holds-requires
+    every-slot-requires
     returns-2
     rule2-holds-requires
     returns-3
-    rule3-holds-requires
+    every-slot-requires-2
     returns-4
     rule4-holds-requires
     returns-5
-    rule5-holds-requires
+    every-slot-requires-3
     returns-6
-    rule6-holds-requires
+    every-slot-requires-4
     returns-7
     rule7-holds-requires
     returns-8

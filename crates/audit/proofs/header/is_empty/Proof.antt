@@ -31,18 +31,18 @@ returns-2 c =
     let f : isMinusOne z ≡ true = sym (none-steps z) ∙ eq-eqb (stepsOf z) 2147483647 (sym (c .before .before .before .steps-at .ensures) ∙ c .before .before .if1 .left) in
     rw (f, ne-eqb (pointsOf ws) 0 (λ e. c .if2 .taken (c .before .points-of .ensures ∙ e)))
 
-all-free-requires : tie.Need-all-free-requires
-all-free-requires c κs = search needs
+every-slot-requires : tie.Need-every-slot-requires
+every-slot-requires c κs = search needs
 
 returns-3 : tie.Need-returns-3
 unfolding isEmpty
 returns-3 c =
-    let ws = c .before .before .before .before .before .args .table .now in
+    let ws = c .before .before .before .before .before .before .args .table .now in
     let z = word ws 0 in
-    let f : isMinusOne z ≡ true = sym (none-steps z) ∙ eq-eqb (stepsOf z) 2147483647 (sym (c .before .before .before .before .steps-at .ensures) ∙ c .before .before .before .if1 .left) in
-    rw (f, eq-eqb (pointsOf ws) 0 (sym (c .before .before .points-of .ensures) ∙ c .before .if2 .left)) (c .all-free .ensures)
+    let f : isMinusOne z ≡ true = sym (none-steps z) ∙ eq-eqb (stepsOf z) 2147483647 (sym (c .before .before .before .before .before .steps-at .ensures) ∙ c .before .before .before .before .if1 .left) in
+    rw (f, eq-eqb (pointsOf ws) 0 (sym (c .before .before .before .points-of .ensures) ∙ c .before .before .if2 .left)) (c .every-slot .ensures)
 
 pub is-empty-spec : {M : Type 1} → statement M
 is-empty-spec =
     tie.close
-    (tie.spec steps-at-requires returns points-of-requires returns-2 all-free-requires returns-3)
+    (tie.spec steps-at-requires returns points-of-requires returns-2 every-slot-requires returns-3)

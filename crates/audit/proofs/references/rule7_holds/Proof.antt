@@ -57,8 +57,8 @@ loop-less c = omega arith
 loop-again : tie.Need-loop-again Inv-loop μ-loop
 loop-again c = (omega arith, c .count-at .ensures)
 
-referred-once-requires : tie.Need-referred-once-requires Inv-loop μ-loop
-referred-once-requires c κs =
+every-slot-requires : tie.Need-every-slot-requires Inv-loop μ-loop
+every-slot-requires c κs =
     let l = c .before .before in
     let ws = l .before .before .before .before .args .table .now in
     let e : l .loop .slot ≡ SLOTS = omega arith in
@@ -71,7 +71,7 @@ returns-2 c =
     let ws = h .before .before .before .args .table .now in
     let t : rule7Header ws ≡ true =
     eq-eqb (pointsOf ws) (length (stations ws)) (sym (h .before .before .points-of .ensures) ∙ h .if1 .left ∙ h .before .leaf-entries .ensures) in
-    c .referred-once .ensures ∙ ap (λ b. b && every (rule7 ws) slots) (sym t)
+    c .every-slot .ensures ∙ ap (λ b. b && every (rule7 ws) slots) (sym t)
 
 pub rule7-holds-spec : {M : Type 1} → statement M
 rule7-holds-spec =
@@ -87,5 +87,5 @@ rule7-holds-spec =
     add-slot
     loop-less
     loop-again
-    referred-once-requires
+    every-slot-requires
     returns-2)
