@@ -11,7 +11,7 @@ use Rattle.order.specs.Order.{Perm, upFrom, pskip, ptrans}
 use Rattle.order.proofs.Perm.{perm-length}
 use Rattle.order.proofs.Order.{up-length, mem-up}
 use Rattle.order.proofs.Lists.{by-bool, filter-mem, mem-filter, perm-join}
-use Rattle.table.specs.Figures.{SLOTS}
+use Rattle.figures.specs.Figures.{SLOTS}
 use Rattle.table.specs.Words.{Words}
 use Rattle.table.specs.Slots.{slots, isFree}
 use Rattle.audit.specs.Rules.{leafEntries, refsAt}

@@ -14,7 +14,7 @@ use Rattle.order.proofs.Perm.{psym, perm-map, perm-length}
 use Rattle.order.proofs.Lists.{by-bool, perm-count, all-mem, perm-nodup}
 use Rattle.order.proofs.Order.{mem-up}
 use Rattle.table.specs.declared.node.Entry.{Entry}
-use Rattle.table.specs.Figures.{LEAST, SLOTS}
+use Rattle.figures.specs.Figures.{LEAST, SLOTS}
 use Rattle.table.specs.Words.{Words, rootOf, pointsOf, partAt}
 use Rattle.table.specs.Page.{page, pageWords, coverOf}
 use Rattle.table.specs.Slots.{slots, isFree, levelAt, entriesAt}

@@ -14,7 +14,7 @@ use Rattle.grid.proofs.Rects.{rect-ext}
 use Rattle.order.specs.Lists.{every, join, All}
 use Rattle.order.specs.Order.{upFrom}
 use Rattle.table.specs.declared.node.Entry.{Entry}
-use Rattle.table.specs.Figures.{FAN, MOST, SLOTS, ENTRY}
+use Rattle.figures.specs.Figures.{FAN, MOST, SLOTS, ENTRY}
 use Rattle.table.specs.Words.{Words, word, isZero, rootOf, pointsOf, partAt, between}
 use Rattle.table.specs.Page.{Page, filled, pageWords, freeWords, coverOf}
 use Rattle.table.specs.Slots.{slots, isFree, levelAt, entriesAt}

@@ -16,7 +16,7 @@ use Rattle.order.specs.Lists.{every, join, All}
 use Rattle.order.specs.Order.{upFrom}
 use Rattle.order.proofs.Lists.{all-at}
 use Rattle.order.proofs.Order.{up-all}
-use Rattle.table.specs.Figures.{SLOTS, WIDTH, LENGTH}
+use Rattle.figures.specs.Figures.{SLOTS, WIDTH, LENGTH}
 use Rattle.table.specs.Words.{Words, word, isMinusOne, pointsOf, startOf, partAt}
 use Rattle.table.specs.Page.{freeWords, coverOf}
 use Rattle.table.specs.Slots.{slots, isFree, entriesAt}

@@ -10,7 +10,7 @@ use Rattle.axis.proofs.Words.{word-steps}
 use Rattle.order.specs.Lists.{join, All}
 use Rattle.order.specs.Order.{upFrom}
 use Rattle.order.proofs.Order.{up-length}
-use Rattle.table.specs.Figures.{SLOTS, ENTRY}
+use Rattle.figures.specs.Figures.{SLOTS, ENTRY}
 use Rattle.table.specs.Words.{Words, word, partAt}
 use Rattle.table.specs.Page.{entryOf, filled, pageOf}
 use Rattle.table.specs.Slots.{slots, pageAt, entriesAt}

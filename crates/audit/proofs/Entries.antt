@@ -13,7 +13,7 @@ use Rattle.order.specs.Lists.{every, All}
 use Rattle.order.proofs.Lists.{all-mem, mem-all, all-at}
 use Rattle.table.specs.declared.node.Entry.{Entry}
 use Rattle.table.specs.declared.node.Node.{Node}
-use Rattle.table.specs.Figures.{SLOTS, HIGHEST}
+use Rattle.figures.specs.Figures.{SLOTS, HIGHEST}
 use Rattle.table.specs.Words.{Words, between}
 use Rattle.table.specs.Page.{Page, Shows, held, blankEntry}
 use Rattle.table.specs.Slots.{pageAt, entriesAt}

@@ -10,7 +10,7 @@ use Rattle.axis.proofs.Words.{natural-word}
 use Rattle.order.specs.Lists.{join, All, NoDup}
 use Rattle.order.specs.Order.{upFrom}
 use Rattle.order.proofs.Lists.{all-take, all-drop, all-at}
-use Rattle.table.specs.Figures.{SLOTS, WIDTH, LENGTH}
+use Rattle.figures.specs.Figures.{SLOTS, WIDTH, LENGTH}
 use Rattle.table.specs.Words.{Words, word, startOf, partAt}
 use Rattle.table.specs.Page.{pageOf, pageWords, freeWords}
 use Rattle.table.specs.Slots.{isFree, pageAt, levelAt, entriesAt}

@@ -8,7 +8,7 @@ use lib.ListN.{length, length-append, length-map}
 use Rattle.order.specs.Lists.{join}
 use Rattle.order.specs.Order.{upFrom}
 use Rattle.order.proofs.Lists.{join-append}
-use Rattle.table.specs.Figures.{FAN}
+use Rattle.figures.specs.Figures.{FAN}
 use Rattle.table.specs.Words.{Words, partAt}
 use Rattle.table.specs.Page.{entryOf, filled, pageOf}
 use Rattle.table.specs.Slots.{pageAt, entriesAt}

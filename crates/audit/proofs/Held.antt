@@ -13,7 +13,7 @@ use Rattle.order.specs.Order.{Perm}
 use Rattle.order.proofs.Perm.{psym, perm-map, perm-length}
 use Rattle.order.proofs.Lists.{filter-mem}
 use Rattle.order.proofs.Order.{up-all}
-use Rattle.table.specs.Figures.{SLOTS}
+use Rattle.figures.specs.Figures.{SLOTS}
 use Rattle.table.specs.Words.{Words, isMinusOne, pointsOf, partAt}
 use Rattle.table.specs.Page.{Page, page, pageWords, freeWords}
 use Rattle.table.specs.Slots.{slots, isFree, lowestFree}

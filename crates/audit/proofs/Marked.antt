@@ -10,7 +10,7 @@ use lib.Dec.{eqb}
 use lib.ListN.{getD, set, replicate, length-set, length-replicate, getD-replicate}
 use lib.Seq.{getD-set-same, getD-set-other}
 use Rattle.order.specs.Lists.{some, has}
-use Rattle.table.specs.Figures.{HIGHEST}
+use Rattle.figures.specs.Figures.{HIGHEST}
 use Rattle.audit.specs.Rules.{eachNew}
 use Rattle.audit.specs.Seen.{Marks, Entered}
 

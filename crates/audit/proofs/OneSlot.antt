@@ -10,7 +10,7 @@ use Rattle.axis.specs.Word.{natOf}
 use Rattle.order.specs.Lists.{Mem}
 use Rattle.order.proofs.Lists.{by-bool}
 use Rattle.table.specs.declared.node.Entry.{Entry}
-use Rattle.table.specs.Figures.{LEAST, SLOTS}
+use Rattle.figures.specs.Figures.{LEAST, SLOTS}
 use Rattle.table.specs.Words.{Words, word, isMinusOne, rootOf, partAt}
 use Rattle.table.specs.Page.{pageOf}
 use Rattle.table.specs.Slots.{isFree, pageAt, levelAt, entriesAt}

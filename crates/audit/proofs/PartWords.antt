@@ -16,7 +16,7 @@ use Rattle.order.specs.Order.{upFrom}
 use Rattle.order.proofs.Lists.{all-at, all-append, all-replicate}
 use Rattle.order.proofs.Order.{up-length}
 use Rattle.table.specs.declared.node.Entry.{Entry}
-use Rattle.table.specs.Figures.{FAN, ENTRY, WIDTH}
+use Rattle.figures.specs.Figures.{FAN, ENTRY, WIDTH}
 use Rattle.table.specs.Words.{Words, word, isZero}
 use Rattle.table.specs.Page.{Page, entryOf, filled, pageOf, entryWords, entriesWords, pageWords, freeWords, EntryFits, PageFits}
 use Rattle.audit.specs.Rules.{isNatural, usedWords}

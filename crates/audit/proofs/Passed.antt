@@ -3,7 +3,7 @@ use Prim.Native.Nat.{ℕ, _<_}
 use mathlib.Core.Path.{_≡_}
 use mathlib.Core.Bool.{true, _&&_}
 use Rattle.order.specs.Lists.{every}
-use Rattle.table.specs.Figures.{SLOTS}
+use Rattle.figures.specs.Figures.{SLOTS}
 use Rattle.table.specs.Words.{Words}
 use Rattle.table.specs.Slots.{slots}
 use Rattle.audit.specs.Rules.{rule1, rule2, rule3, rule4, rule5, rule6, rule7, rule7Header, wellFormed}

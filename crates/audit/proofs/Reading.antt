@@ -18,7 +18,7 @@ use Rattle.grid.proofs.Rects.{rect-ext, grown-grid}
 use Rattle.order.specs.Lists.{Mem, All, NoDup}
 use Rattle.order.proofs.Lists.{map-at, all-mem, mem-all}
 use Rattle.table.specs.declared.node.Entry.{Entry}
-use Rattle.table.specs.Figures.{FAN, LEAST, SLOTS, HIGHEST}
+use Rattle.figures.specs.Figures.{FAN, LEAST, SLOTS, HIGHEST}
 use Rattle.table.specs.Words.{Words, rootOf, pointsOf, partAt, between}
 use Rattle.table.specs.Page.{Page, page, pageOf, pageWords, EntryFits, PageFits, blankEntry, coverOf}
 use Rattle.table.specs.Slots.{isFree, pageAt, levelAt, entriesAt, entryFor}

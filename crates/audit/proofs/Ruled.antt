@@ -9,7 +9,7 @@ use lib.ListN.{length}
 use Rattle.order.specs.Lists.{join, Mem, All, NoDup}
 use Rattle.order.proofs.Lists.{mem-all}
 use Rattle.table.specs.declared.node.Entry.{Entry}
-use Rattle.table.specs.Figures.{FAN, MOST, SLOTS, LENGTH}
+use Rattle.figures.specs.Figures.{FAN, MOST, SLOTS, LENGTH}
 use Rattle.table.specs.Words.{Words, word, rootOf, pointsOf, partAt}
 use Rattle.table.specs.Page.{pageWords, freeWords, coverOf}
 use Rattle.table.specs.Slots.{slots, isFree, pageAt, levelAt, entriesAt}

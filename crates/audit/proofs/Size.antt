@@ -5,7 +5,7 @@ use mathlib.Core.Path.{_≡_, refl, sym}
 use mathlib.Core.List.{List, [], _∷_}
 use lib.ListN.{length, length-append}
 use Rattle.order.specs.Lists.{join, All}
-use Rattle.table.specs.Figures.{LEAST, MOST}
+use Rattle.figures.specs.Figures.{LEAST, MOST}
 use Rattle.table.specs.Tree.{Tree, slotsOf, leavesOf, Filled, leastOf, Sound}
 
 -- ---- sums

@@ -5,7 +5,7 @@ use mathlib.Core.Path.{_≡_, refl, sym}
 use mathlib.Core.Logic.{_⊎_, inl, inr, ⊎-elim}
 use mathlib.Core.List.{List·Memᴰ·cases-cons, List·Memᴰ·eq-of-singleton}
 use Rattle.order.specs.Lists.{Mem}
-use Rattle.table.specs.Figures.{LEAST}
+use Rattle.figures.specs.Figures.{LEAST}
 use Rattle.table.specs.Words.{Words}
 use Rattle.table.specs.Tree.{Tree, topOf, slotsOf, Stored}
 use Rattle.audit.proofs.Joined.{join-mem}

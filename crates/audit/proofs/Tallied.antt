@@ -12,7 +12,7 @@ use lib.Seq.{getD-set-same, getD-set-other}
 use Rattle.order.specs.Lists.{one, count, join}
 use Rattle.order.specs.Order.{upFrom}
 use Rattle.order.proofs.Lists.{count-append}
-use Rattle.table.specs.Figures.{FAN, SLOTS}
+use Rattle.figures.specs.Figures.{FAN, SLOTS}
 use Rattle.table.specs.Words.{Words}
 use Rattle.table.specs.Slots.{entriesAt}
 use Rattle.audit.specs.Rules.{isAbove, refsAt}

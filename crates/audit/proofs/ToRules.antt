@@ -13,7 +13,7 @@ use Rattle.order.proofs.Perm.{psym, perm-map, perm-length}
 use Rattle.order.proofs.Lists.{perm-count, all-perm, all-mem, mem-all, perm-nodup}
 use Rattle.order.proofs.Order.{mem-up}
 use Rattle.table.specs.declared.node.Entry.{Entry}
-use Rattle.table.specs.Figures.{FAN, SLOTS}
+use Rattle.figures.specs.Figures.{FAN, SLOTS}
 use Rattle.table.specs.Words.{Words, partAt}
 use Rattle.table.specs.Page.{Page, page, pageWords, coverOf}
 use Rattle.table.specs.Slots.{slots, isFree, levelAt, entriesAt}

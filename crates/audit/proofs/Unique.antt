@@ -12,7 +12,7 @@ use Rattle.axis.proofs.Axis.{span-ext}
 use Rattle.grid.proofs.Rects.{rect-ext}
 use Rattle.order.specs.Lists.{All}
 use Rattle.table.specs.declared.node.Entry.{Entry}
-use Rattle.table.specs.Figures.{FAN, ENTRY}
+use Rattle.figures.specs.Figures.{FAN, ENTRY}
 use Rattle.table.specs.Words.{Words, partAt}
 use Rattle.table.specs.Page.{page, entryWords, entriesWords, pageWords}
 use Rattle.table.specs.Tree.{Tree, topOf, entryOfTree, entriesOfTree, Stored, Holds}

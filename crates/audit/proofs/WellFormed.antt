@@ -7,7 +7,7 @@ use mathlib.Core.List.{[]}
 use lib.ListN.{length}
 use Rattle.axis.specs.Word.{IsWord}
 use Rattle.order.specs.Lists.{All}
-use Rattle.table.specs.Figures.{LENGTH}
+use Rattle.figures.specs.Figures.{LENGTH}
 use Rattle.table.specs.Words.{Words}
 use Rattle.table.specs.Stations.{stations}
 use Rattle.table.specs.Empty.{emptyTable}

@@ -6,7 +6,7 @@ use lib.ListN.{length}
 use Rattle.table.specs.declared.given.Given.{Given}
 use Rattle.table.specs.declared.given.Given.the-variants.{WrongLength, NotWellFormed}
 use Rattle.table.specs.Given.{line, firstOf}
-use Rattle.table.specs.Figures.{LENGTH}
+use Rattle.figures.specs.Figures.{LENGTH}
 use Rattle.table.specs.Words.{Words}
 use Rattle.audit.specs.Rules.{wellFormed}
 

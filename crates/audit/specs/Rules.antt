@@ -12,7 +12,7 @@ use Rattle.axis.specs.declared.span.Span.{Span}
 use Rattle.order.specs.Order.{upFrom}
 use Rattle.order.specs.Lists.{count, every, has, join}
 use Rattle.table.specs.declared.node.Entry.{Entry}
-use Rattle.table.specs.Figures.{FAN, LEAST, MOST, SLOTS, ENTRY}
+use Rattle.figures.specs.Figures.{FAN, LEAST, MOST, SLOTS, ENTRY}
 use Rattle.table.specs.Words.{Words, between, word, isZero, isMinusOne, rootOf, pointsOf, partAt}
 use Rattle.table.specs.Page.{filled, coverOf}
 use Rattle.table.specs.Slots.{slots, isFree, levelAt, entriesAt}

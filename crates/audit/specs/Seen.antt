@@ -7,7 +7,7 @@ use lib.Dec.{eqb}
 use lib.ListN.{length, getD}
 use Rattle.order.specs.Lists.{count, has}
 use Rattle.table.specs.declared.node.Entry.{Entry}
-use Rattle.table.specs.Figures.{SLOTS, HIGHEST}
+use Rattle.figures.specs.Figures.{SLOTS, HIGHEST}
 use Rattle.audit.specs.Rules.{eachNew}
 
 -- the references of some entries: point numbers in a leaf, child slots above

@@ -1,12 +1,12 @@
 // Rule 2: the two header words.
 ghost use mathlib.Core.Path.{_≡_};
 ghost use lib.ListN.{length};
-ghost use Rattle.table.specs.Figures.{LENGTH};
+ghost use Rattle.figures.specs.Figures.{LENGTH};
 ghost use Rattle.audit.specs.Rules.{isEmpty, rule2};
 use crate::rules;
 use crate::rules::Rule;
 use axis::border;
-use table::figures::Table;
+use figures::Table;
 use table::part;
 use table::slot;
 

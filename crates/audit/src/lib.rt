@@ -11,8 +11,8 @@ pub mod references;
 pub mod rules;
 pub mod shape;
 
+use figures::Table;
 use rules::Rule;
-use table::figures::Table;
 use table::given::Given;
 
 // Document 01's table check: 1, 2 or 0, and the table stays as it is.

@@ -6,7 +6,7 @@ ghost use mathlib.Core.List.{List, _++_};
 ghost use lib.ListN.{length, getD};
 ghost use Rattle.order.specs.Lists.{every, join, All};
 ghost use Rattle.order.specs.Order.{upFrom};
-ghost use Rattle.table.specs.Figures.{FAN, SLOTS, LENGTH};
+ghost use Rattle.figures.specs.Figures.{FAN, SLOTS, LENGTH};
 ghost use Rattle.table.specs.Page.{held};
 ghost use Rattle.table.specs.Slots.{slots};
 ghost use Rattle.table.specs.Stations.{stationsAt, stations};
@@ -15,7 +15,7 @@ ghost use Rattle.audit.specs.Seen.{refsOf, Tally};
 use crate::children;
 use crate::rules;
 use crate::rules::Rule;
-use table::figures::Table;
+use figures::Table;
 use table::node::Node;
 use table::slot;
 

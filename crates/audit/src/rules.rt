@@ -3,13 +3,13 @@ ghost use mathlib.Core.Path.{_≡_};
 ghost use Prim.Native.Nat.{_<_};
 ghost use lib.ListN.{length};
 ghost use Rattle.order.specs.Lists.{every};
-ghost use Rattle.table.specs.Figures.{SLOTS, LENGTH};
+ghost use Rattle.figures.specs.Figures.{SLOTS, LENGTH};
 ghost use Rattle.table.specs.Slots.{slots};
 ghost use Rattle.audit.specs.Asked.{ruleAt, Before};
 use crate::children;
 use crate::references;
 use crate::shape;
-use table::figures::Table;
+use figures::Table;
 use table::slot;
 
 // What is asked of a slot: a rule, by its number in document 01, or that it is free, which rule 2 asks of an empty table.

@@ -3,11 +3,11 @@ ghost use mathlib.Core.Path.{_≡_};
 ghost use Prim.Native.Nat.{_≤_, _<_};
 ghost use lib.ListN.{length, drop};
 ghost use Rattle.order.specs.Lists.{every};
-ghost use Rattle.table.specs.Figures.{SLOTS, LENGTH};
+ghost use Rattle.figures.specs.Figures.{SLOTS, LENGTH};
 ghost use Rattle.table.specs.Words.{isZero};
 ghost use Rattle.audit.specs.Rules.{rule1, rule3, leastFill};
 use axis::border;
-use table::figures::Table;
+use figures::Table;
 use table::part;
 use table::slot;
 

@@ -11,7 +11,7 @@ use Rattle.order.specs.Lists.{one, join, All, Same}
 use Rattle.order.specs.Order.{Perm}
 use Rattle.order.proofs.Lists.{count-append, all-mem, mem-all, same-perm}
 use Rattle.table.specs.declared.node.Entry.{Entry}
-use Rattle.table.specs.Figures.{LEAST, SLOTS}
+use Rattle.figures.specs.Figures.{LEAST, SLOTS}
 use Rattle.table.specs.Stations.{isPoint}
 use Rattle.audit.specs.Rules.{sameSpan, sameRect}
 use Rattle.table.specs.Tree.{Tree, slotsOf, leavesOf, Filled}

@@ -10,7 +10,7 @@ use borrow.Author.Tests.{eqb-true, eq-eqb}
 use Rattle.order.specs.Lists.{one, count, join, All}
 use Rattle.order.proofs.Lists.{by-bool, all-mem, mem-all}
 use Rattle.table.specs.declared.node.Entry.{Entry}
-use Rattle.table.specs.Figures.{FAN, SLOTS, LENGTH}
+use Rattle.figures.specs.Figures.{FAN, SLOTS, LENGTH}
 use Rattle.table.specs.Words.{Words, word, partAt}
 use Rattle.table.specs.Page.{Page}
 use Rattle.table.specs.Slots.{putPage, freed}

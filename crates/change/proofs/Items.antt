@@ -6,7 +6,7 @@ use lib.ListN.{length}
 use Rattle.order.specs.Lists.{join, All}
 use Rattle.order.proofs.Lists.{join-one}
 use Rattle.table.specs.declared.node.Entry.{Entry}
-use Rattle.table.specs.Figures.{FAN, LEAST}
+use Rattle.figures.specs.Figures.{FAN, LEAST}
 use Rattle.table.specs.Words.{Words, partAt}
 use Rattle.table.specs.Page.{page, pageWords}
 use Rattle.table.specs.Tree.{Tree, bough, topOf, entryOfTree, entriesOfTree, slotsOf, leavesOf, Filled, Stored}

@@ -6,7 +6,7 @@ use mathlib.Core.List.{map}
 use Rattle.order.specs.Lists.{All}
 use Rattle.order.proofs.Lists.{all-mem}
 use Rattle.table.specs.declared.node.Entry.{Entry}
-use Rattle.table.specs.Figures.{LEAST, SLOTS}
+use Rattle.figures.specs.Figures.{LEAST, SLOTS}
 use Rattle.table.specs.Words.{Words}
 use Rattle.table.specs.Page.{page}
 use Rattle.table.specs.Slots.{pageAt, entriesAt}

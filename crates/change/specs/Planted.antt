@@ -4,7 +4,7 @@ use mathlib.Core.Path.{_≡_}
 use mathlib.Core.Bool.{true}
 use lib.ListN.{length}
 use Rattle.order.specs.Lists.{All, NoDup}
-use Rattle.table.specs.Figures.{SLOTS, LENGTH}
+use Rattle.figures.specs.Figures.{SLOTS, LENGTH}
 use Rattle.table.specs.Words.{Words}
 use Rattle.table.specs.Stations.{isPoint}
 use Rattle.table.specs.Tree.{Tree, topOf, slotsOf, leavesOf, leastOf, Filled, Stored}

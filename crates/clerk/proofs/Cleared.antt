@@ -6,7 +6,7 @@ use mathlib.Core.Path.{_≡_, sym, subst, _∙_}
 use lib.IntN.{pos, negsuc}
 use lib.ListN.{length, length-set}
 use lib.Seq.{getD-set-same, getD-set-other}
-use Rattle.table.specs.Figures.{SLOTS, LENGTH}
+use Rattle.figures.specs.Figures.{SLOTS, LENGTH}
 use Rattle.table.specs.Words.{Words, word, partAt}
 use Rattle.table.specs.Page.{freeWords}
 use Rattle.table.specs.Slots.{freed, withRoot, withPoints}

@@ -9,7 +9,7 @@ use lib.ListN.{length, take, replicate, length-replicate}
 use borrow.Author.Tests.{ltb-true, ltb-false, le-ltb}
 use Rattle.order.proofs.Lists.{by-bool}
 use Rattle.audit.proofs.Tests.{and-left}
-use Rattle.table.specs.Figures.{MOST}
+use Rattle.figures.specs.Figures.{MOST}
 use Rattle.table.specs.Empty.{emptyTable}
 use Rattle.sheet.specs.Bytes.{Bytes, FEED, linesOf}
 use Rattle.sheet.specs.Marks.{lineOf}

@@ -5,7 +5,7 @@ use mathlib.Core.Bool.{Bool, true, cond, _&&_}
 use mathlib.Core.List.{List, [], _++_}
 use lib.Dec.{leb, ltb}
 use lib.ListN.{length, take, drop}
-use Rattle.table.specs.Figures.{MOST, LENGTH}
+use Rattle.figures.specs.Figures.{MOST, LENGTH}
 use Rattle.table.specs.Words.{Words}
 use Rattle.audit.specs.Rules.{wellFormed}
 use Rattle.table.specs.Given.{numberGiven}

@@ -1,9 +1,9 @@
 // The table that a sheet starts with.
 ghost use mathlib.Core.Path.{_≡_};
 ghost use lib.ListN.{length};
-ghost use Rattle.table.specs.Figures.{LENGTH};
+ghost use Rattle.figures.specs.Figures.{LENGTH};
 ghost use Rattle.table.specs.Empty.{emptyTable};
-use table::figures::Table;
+use figures::Table;
 use table::slot;
 
 // Every slot becomes free, and there is no root and no point.

@@ -6,7 +6,7 @@ use lib.IntN.{ℤ}
 use lib.ListN.{length, length-map, length-replicate}
 use Rattle.axis.specs.Word.{natOf}
 use Rattle.grid.specs.Site.{Site}
-use Rattle.table.specs.Figures.{MOST}
+use Rattle.figures.specs.Figures.{MOST}
 use Rattle.table.specs.Words.{Words}
 use Rattle.filter.specs.Query.{Record, Counts, answersFound, countsOf, laidOver}
 use Rattle.row.specs.declared.record.Candidate.{Candidate}

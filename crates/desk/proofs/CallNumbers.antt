@@ -10,7 +10,7 @@ use Rattle.axis.specs.Word.{natOf}
 use Rattle.order.specs.Lists.{some, has, join}
 use Rattle.order.specs.Order.{upFrom}
 use Rattle.order.proofs.Order.{up-length, up-at}
-use Rattle.table.specs.Figures.{SLOTS, ENTRY}
+use Rattle.figures.specs.Figures.{SLOTS, ENTRY}
 use Rattle.table.specs.Words.{Words, word, partAt}
 use Rattle.table.specs.Page.{entryOf, filled, pageOf}
 use Rattle.table.specs.Slots.{slots, pageAt}

@@ -15,7 +15,7 @@ use Rattle.grid.specs.Site.{Site}
 use Rattle.table.specs.declared.given.Given.{Given}
 use Rattle.table.specs.declared.given.Given.the-variants.{Done, WrongLength, NotWellFormed, NoSuchNumber, OffGrid, AlreadyEnrolled, Full, NotEnrolled}
 use Rattle.table.proofs.given.Given.{the-type}
-use Rattle.table.specs.Figures.{LENGTH}
+use Rattle.figures.specs.Figures.{LENGTH}
 use Rattle.table.specs.Words.{Words}
 use Rattle.audit.specs.Rules.{wellFormed}
 use Rattle.table.specs.Given.{numberGiven}

@@ -14,7 +14,7 @@ use Rattle.order.specs.Lists.{All}
 use Rattle.order.proofs.Lists.{by-bool}
 use Rattle.table.specs.declared.given.Given.{Given}
 use Rattle.table.specs.declared.given.Given.the-variants.{Done, WrongLength, NotWellFormed, OffGrid, NoSuchK, FewCandidates, FewAnswers}
-use Rattle.table.specs.Figures.{LENGTH}
+use Rattle.figures.specs.Figures.{LENGTH}
 use Rattle.table.specs.Words.{Words, pointsOf}
 use Rattle.audit.specs.Rules.{wellFormed}
 use Rattle.table.specs.Given.{Line, line, numberGiven, firstOf}

@@ -13,7 +13,7 @@ use Rattle.order.specs.Lists.{count, filter, Mem, All}
 use Rattle.order.proofs.Lists.{length-filter, filter-mem, all-mem, mem-all, all-perm}
 use Rattle.order.proofs.Order.{sort-perm, sort-length}
 use Rattle.table.specs.declared.given.Given.the-variants.{Done}
-use Rattle.table.specs.Figures.{MOST, HIGHEST}
+use Rattle.figures.specs.Figures.{MOST, HIGHEST}
 use Rattle.table.specs.Words.{Words, pointsOf}
 use Rattle.table.specs.Stations.{Station, stations, isPoint, stationOfEntry}
 use Rattle.table.specs.Given.{firstOf}

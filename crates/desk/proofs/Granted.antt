@@ -25,7 +25,7 @@ use Rattle.table.specs.declared.given.Given.the-variants.{
   FewCandidates,
   FewAnswers,
 }
-use Rattle.table.specs.Figures.{MOST, LENGTH, HIGHEST}
+use Rattle.figures.specs.Figures.{MOST, LENGTH, HIGHEST}
 use Rattle.table.specs.Words.{Words, pointsOf, between}
 use Rattle.audit.specs.Rules.{wellFormed}
 use Rattle.table.specs.Given.{Line, line, firstOf}

@@ -19,7 +19,7 @@ use Rattle.order.proofs.Perm.{prefl, psym, perm-map, perm-mem, perm-length}
 use Rattle.order.proofs.Lists.{by-bool, mem-front, all-mem, perm-nodup}
 use Rattle.table.specs.declared.node.Entry.{Entry}
 use Rattle.table.specs.declared.given.Given.the-variants.{Done}
-use Rattle.table.specs.Figures.{HIGHEST}
+use Rattle.figures.specs.Figures.{HIGHEST}
 use Rattle.table.specs.Words.{Words}
 use Rattle.table.specs.Stations.{Station, stationOfEntry, stations, spanIsSpot, isPoint}
 use Rattle.table.specs.Empty.{emptyTable}

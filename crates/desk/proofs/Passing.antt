@@ -13,7 +13,7 @@ use Rattle.order.proofs.Perm.{psym, perm-map, perm-length}
 use Rattle.order.proofs.Lists.{length-filter, perm-nodup}
 use Rattle.order.proofs.Order.{up-all}
 use Rattle.table.specs.declared.node.Entry.{Entry}
-use Rattle.table.specs.Figures.{MOST, SLOTS}
+use Rattle.figures.specs.Figures.{MOST, SLOTS}
 use Rattle.table.specs.Words.{Words, pointsOf}
 use Rattle.table.specs.Slots.{slots, isFree, levelAt}
 use Rattle.table.specs.Stations.{Station, stationOfEntry, stations}

@@ -14,7 +14,7 @@ use Rattle.order.specs.Lists.{count, filter, All}
 use Rattle.table.specs.declared.given.Given.{Given}
 use Rattle.table.specs.declared.given.Given.the-variants.{Done, Full, FewAnswers}
 use Rattle.table.specs.Given.{Line}
-use Rattle.table.specs.Figures.{MOST, SLOTS, LENGTH}
+use Rattle.figures.specs.Figures.{MOST, SLOTS, LENGTH}
 use Rattle.table.specs.Words.{Words}
 use Rattle.table.specs.Slots.{slots, isFree, levelAt}
 use Rattle.table.specs.Stations.{Station, stations}

@@ -8,7 +8,7 @@ use lib.ListN.{length}
 use Rattle.axis.specs.Word.{natOf, onGrid}
 use Rattle.grid.specs.Site.{Site}
 use Rattle.order.specs.Lists.{has}
-use Rattle.table.specs.Figures.{MOST, HIGHEST}
+use Rattle.figures.specs.Figures.{MOST, HIGHEST}
 use Rattle.table.specs.Words.{Words, pointsOf, between}
 use Rattle.table.specs.Stations.{Station, stations}
 use Rattle.table.specs.Given.{Line, line, firstOf}

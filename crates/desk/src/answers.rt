@@ -2,14 +2,14 @@
 ghost use mathlib.Core.Path.{_≡_};
 ghost use mathlib.Core.Bool.{true};
 ghost use lib.ListN.{length};
-ghost use Rattle.table.specs.Figures.{LENGTH};
+ghost use Rattle.figures.specs.Figures.{LENGTH};
 ghost use Rattle.audit.specs.Rules.{wellFormed};
 ghost use Rattle.desk.specs.Refusals.{site};
 ghost use Rattle.desk.specs.Alone.{AnswersAlone};
 use crate::query::Answered;
 use crate::query::query_passing;
+use figures::Table;
 use row::record::Candidate;
-use table::figures::Table;
 
 // Room for as many candidates as a table has points. What stands in it the query does not read.
 fn blank_list() -> [Candidate; Table::MOST] {

@@ -3,11 +3,11 @@ ghost use mathlib.Core.Path.{_≡_};
 ghost use Prim.Native.Nat.{_<_};
 ghost use lib.ListN.{length};
 ghost use Rattle.order.specs.Lists.{has};
-ghost use Rattle.table.specs.Figures.{SLOTS, LENGTH};
+ghost use Rattle.figures.specs.Figures.{SLOTS, LENGTH};
 ghost use Rattle.audit.specs.Rules.{numbersAt};
 ghost use Rattle.desk.specs.Refusals.{site, noSuchNumber, offGrid, noSuchK, isEnrolled, isFull};
 use axis::border;
-use table::figures::Table;
+use figures::Table;
 use table::slot;
 
 // 3: point number outside 1 to 9,999.

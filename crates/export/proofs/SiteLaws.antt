@@ -11,7 +11,7 @@ use Rattle.axis.specs.Word.{natOf}
 use Rattle.grid.specs.Site.{Site}
 use Rattle.table.specs.declared.given.Given.{Given}
 use Rattle.table.specs.declared.given.Given.the-variants.{Done}
-use Rattle.table.specs.Figures.{MOST}
+use Rattle.figures.specs.Figures.{MOST}
 use Rattle.table.specs.Words.{Words}
 use Rattle.audit.specs.Check.{checkGives}
 use Rattle.filter.specs.Query.{answersFound, laidOver}

@@ -5,7 +5,7 @@ use lib.IntN.{ℤ}
 use lib.ListN.{length, take}
 use Rattle.axis.specs.Word.{natOf}
 use Rattle.grid.specs.Site.{Site}
-use Rattle.table.specs.Figures.{MOST}
+use Rattle.figures.specs.Figures.{MOST}
 use Rattle.table.specs.Words.{Words}
 use Rattle.audit.specs.Check.{checkGives}
 use Rattle.filter.specs.Query.{answersFound, laidOver}

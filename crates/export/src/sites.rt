@@ -3,12 +3,12 @@ ghost use mathlib.Core.Path.{_≡_};
 ghost use mathlib.Core.Bool.{true};
 ghost use Prim.Native.Nat.{min};
 ghost use lib.ListN.{length};
-ghost use Rattle.table.specs.Figures.{LENGTH};
+ghost use Rattle.figures.specs.Figures.{LENGTH};
 ghost use Rattle.audit.specs.Rules.{wellFormed};
 ghost use Rattle.desk.specs.Refusals.{site};
 ghost use Rattle.export.specs.Sites.{siteCount, countsOver};
 use desk::answers::answers_passing;
-use table::figures::Table;
+use figures::Table;
 use table::given::Given;
 
 // Room for as many answers as a table has points. The numbers in it nobody reads: the count is all that is asked.

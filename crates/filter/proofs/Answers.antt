@@ -24,7 +24,7 @@ use Rattle.table.specs.Words.{Words, word, isMinusOne, pointsOf, partAt}
 use Rattle.table.specs.Page.{pageOf}
 use Rattle.table.specs.Slots.{slots, isFree, pageAt}
 use Rattle.table.specs.Stations.{Station, stationsAt, stations, isPoint, stationOfEntry}
-use Rattle.table.specs.Figures.{LENGTH}
+use Rattle.figures.specs.Figures.{LENGTH}
 use Rattle.audit.specs.Rules.{isEmpty, wellFormed}
 use Rattle.table.specs.Tree.{Tree, topOf, slotsOf, leavesOf, Sound, Holds}
 use Rattle.filter.specs.Meaning.{nearerOther, answersTo, rising, answer}

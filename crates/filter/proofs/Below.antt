@@ -17,7 +17,7 @@ use Rattle.grid.proofs.Nearer.{far-more}
 use Rattle.order.specs.Lists.{count, join, All}
 use Rattle.order.proofs.Lists.{count-append, join-append, all-mem, all-at}
 use Rattle.table.specs.declared.node.Entry.{Entry}
-use Rattle.table.specs.Figures.{LEAST}
+use Rattle.figures.specs.Figures.{LEAST}
 use Rattle.table.specs.Words.{Words}
 use Rattle.table.specs.Page.{blankEntry}
 use Rattle.table.specs.Slots.{entriesAt}

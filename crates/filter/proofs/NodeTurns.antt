@@ -13,7 +13,7 @@ use Rattle.order.specs.Order.{rowOf}
 use Rattle.order.proofs.Lists.{all-at}
 use Rattle.table.specs.declared.node.Entry.{Entry}
 use Rattle.table.specs.Words.{Words}
-use Rattle.table.specs.Figures.{SLOTS}
+use Rattle.figures.specs.Figures.{SLOTS}
 use Rattle.table.specs.Page.{blankEntry}
 use Rattle.table.specs.Slots.{entriesAt}
 use Rattle.table.specs.Stations.{isPoint}

@@ -13,7 +13,7 @@ use Rattle.grid.proofs.Site.{SiteOnGrid, place-grid}
 use Rattle.order.specs.Lists.{count, join, All}
 use Rattle.order.proofs.Lists.{perm-count, all-mem}
 use Rattle.table.specs.declared.node.Entry.{Entry}
-use Rattle.table.specs.Figures.{LENGTH, LEAST}
+use Rattle.figures.specs.Figures.{LENGTH, LEAST}
 use Rattle.table.specs.Words.{Words, rootOf, pointsOf, isMinusOne, word}
 use Rattle.table.specs.Slots.{slots, levelAt}
 use Rattle.audit.specs.Rules.{leafEntries, isEmpty, wellFormed}

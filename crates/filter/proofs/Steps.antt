@@ -18,7 +18,7 @@ use Rattle.order.proofs.Lists.{by-bool, count-append, count-mono, all-mem, mem-
 use Rattle.order.proofs.Order.{sort-perm, sort-map}
 use Rattle.table.specs.declared.node.Entry.{Entry}
 use Rattle.table.specs.Words.{Words}
-use Rattle.table.specs.Figures.{LEAST}
+use Rattle.figures.specs.Figures.{LEAST}
 use Rattle.table.specs.Stations.{isPoint}
 use Rattle.table.specs.Tree.{Tree, topOf, entryOfTree, slotsOf, leavesOf, Stored}
 use Rattle.table.proofs.Cover.{cover-mem}

@@ -17,7 +17,7 @@ use Rattle.grid.proofs.Site.{SiteOnGrid}
 use Rattle.order.specs.Lists.{one, count, join, All}
 use Rattle.order.proofs.Order.{up-all}
 use Rattle.table.specs.declared.node.Entry.{Entry}
-use Rattle.table.specs.Figures.{SLOTS, LENGTH}
+use Rattle.figures.specs.Figures.{SLOTS, LENGTH}
 use Rattle.table.specs.Words.{Words, rootOf}
 use Rattle.table.specs.Slots.{slots, levelAt}
 use Rattle.table.specs.Stations.{stationOfEntry, stations, isPoint}

@@ -4,7 +4,7 @@ use mathlib.Core.Path.{_≡_}
 use mathlib.Core.Bool.{true}
 use Rattle.grid.specs.Place.{RectOnGrid}
 use Rattle.order.specs.Lists.{All}
-use Rattle.table.specs.Figures.{SLOTS}
+use Rattle.figures.specs.Figures.{SLOTS}
 use Rattle.table.specs.Words.{Words}
 use Rattle.table.specs.Slots.{entriesAt}
 use Rattle.table.specs.Stations.{isPoint}

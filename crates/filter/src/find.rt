@@ -5,7 +5,7 @@ ghost use lib.ListN.{length};
 ghost use Rattle.axis.specs.Word.{IsWord, onGrid};
 ghost use Rattle.grid.specs.Site.{placeOf};
 ghost use Rattle.order.specs.Lists.{All};
-ghost use Rattle.table.specs.Figures.{LENGTH};
+ghost use Rattle.figures.specs.Figures.{LENGTH};
 ghost use Rattle.table.specs.Words.{pointsOf};
 ghost use Rattle.audit.specs.Rules.{wellFormed};
 ghost use Rattle.filter.specs.Query.{found};

@@ -6,7 +6,7 @@ ghost use lib.ListN.{length};
 ghost use Rattle.grid.specs.Place.{PlaceOnGrid, RectOnGrid, leastSquare};
 ghost use Rattle.order.specs.Lists.{All};
 ghost use Rattle.order.specs.Order.{rowOf};
-ghost use Rattle.table.specs.Figures.{SLOTS, LENGTH};
+ghost use Rattle.figures.specs.Figures.{SLOTS, LENGTH};
 ghost use Rattle.table.specs.Slots.{entriesAt};
 use grid::place::Place;
 use table::slot::count_at;

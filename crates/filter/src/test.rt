@@ -6,7 +6,7 @@ ghost use lib.ListN.{length};
 ghost use Rattle.axis.specs.Word.{IsWord};
 ghost use Rattle.grid.specs.Place.{PlaceOnGrid};
 ghost use Rattle.order.specs.Lists.{count as countOf, All};
-ghost use Rattle.table.specs.Figures.{SLOTS, LENGTH};
+ghost use Rattle.figures.specs.Figures.{SLOTS, LENGTH};
 ghost use Rattle.table.specs.Slots.{entriesAt};
 ghost use Rattle.table.specs.Stations.{isPoint};
 ghost use Rattle.audit.specs.Rules.{wellFormed};

@@ -11,7 +11,7 @@ use Rattle.order.specs.Lists.{one, count, firstPlace, Mem, NoDup}
 use Rattle.order.specs.Order.{upFrom}
 use Rattle.order.proofs.Lists.{by-bool}
 use Rattle.order.proofs.Order.{mem-up}
-use Rattle.table.specs.Figures.{FAN, SLOTS, LENGTH}
+use Rattle.figures.specs.Figures.{FAN, SLOTS, LENGTH}
 use Rattle.table.specs.Words.{Words, word, isMinusOne, partAt}
 use Rattle.table.specs.Page.{Page}
 use Rattle.table.specs.Slots.{slots, isFree, putPage, lowestFree}

@@ -10,7 +10,7 @@ use borrow.Author.Tests.{eqb-true}
 use Rattle.order.specs.Lists.{one, count, join, All}
 use Rattle.order.proofs.Lists.{by-bool, by-leb, count-append, count-join, join-append}
 use Rattle.table.specs.declared.node.Entry.{Entry}
-use Rattle.table.specs.Figures.{FAN, LEAST, SLOTS, LENGTH}
+use Rattle.figures.specs.Figures.{FAN, LEAST, SLOTS, LENGTH}
 use Rattle.table.specs.Words.{Words}
 use Rattle.table.specs.Page.{page, pageWords, coverOf}
 use Rattle.table.specs.Slots.{isFree, putPage, lowestFree}

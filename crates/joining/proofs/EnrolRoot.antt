@@ -12,7 +12,7 @@ use lib.Seq.{getD-set-same}
 use Rattle.order.specs.Lists.{one, count, join, All}
 use Rattle.order.proofs.Lists.{count-append}
 use Rattle.table.specs.declared.node.Entry.{Entry}
-use Rattle.table.specs.Figures.{FAN, LEAST, SLOTS, LENGTH}
+use Rattle.figures.specs.Figures.{FAN, LEAST, SLOTS, LENGTH}
 use Rattle.table.specs.Words.{Words, word, partAt}
 use Rattle.table.specs.Page.{page, pageWords}
 use Rattle.table.specs.Slots.{isFree, putPage, lowestFree, entryFor}

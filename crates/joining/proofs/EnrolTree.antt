@@ -12,7 +12,7 @@ use Rattle.grid.specs.declared.rect.Rect.{Rect}
 use Rattle.order.specs.Lists.{one, count, join, All}
 use Rattle.order.proofs.Lists.{count-append, join-append, join-one, all-append, all-set}
 use Rattle.table.specs.declared.node.Entry.{Entry}
-use Rattle.table.specs.Figures.{LEAST, SLOTS, LENGTH}
+use Rattle.figures.specs.Figures.{LEAST, SLOTS, LENGTH}
 use Rattle.table.specs.Words.{Words}
 use Rattle.table.specs.Page.{page}
 use Rattle.table.specs.Slots.{isFree, entriesAt, entryFor}

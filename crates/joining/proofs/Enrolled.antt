@@ -13,7 +13,7 @@ use Rattle.order.specs.Order.{Perm}
 use Rattle.order.proofs.Perm.{prefl, psym, perm-length, perm-map}
 use Rattle.order.proofs.Lists.{length-filter, all-mem, perm-nodup}
 use Rattle.table.specs.declared.node.Entry.{Entry}
-use Rattle.table.specs.Figures.{FAN, MOST, SLOTS, LENGTH}
+use Rattle.figures.specs.Figures.{FAN, MOST, SLOTS, LENGTH}
 use Rattle.table.specs.Words.{Words, pointsOf, partAt}
 use Rattle.table.specs.Page.{page}
 use Rattle.table.specs.Empty.{emptyTable}

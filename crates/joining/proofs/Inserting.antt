@@ -10,7 +10,7 @@ use Rattle.order.specs.Lists.{count, All}
 use Rattle.order.proofs.Lists.{join-one, all-at}
 use Rattle.table.specs.declared.node.Entry.{Entry}
 use Rattle.table.specs.declared.node.Node.{Node}
-use Rattle.table.specs.Figures.{FAN, LEAST, LENGTH}
+use Rattle.figures.specs.Figures.{FAN, LEAST, LENGTH}
 use Rattle.table.specs.Words.{Words}
 use Rattle.table.specs.Page.{page, held, Shows, EntryFits, blankEntry}
 use Rattle.table.specs.Slots.{pageAt, levelAt, entriesAt, entryFor}

@@ -12,7 +12,7 @@ use borrow.Author.Tests.{eqb-true}
 use Rattle.order.specs.Lists.{every, All}
 use Rattle.table.specs.declared.node.Entry.{Entry}
 use Rattle.table.specs.declared.node.Node.{Node}
-use Rattle.table.specs.Figures.{LEAST, MOST, SLOTS}
+use Rattle.figures.specs.Figures.{LEAST, MOST, SLOTS}
 use Rattle.table.specs.Words.{Words, word, isMinusOne, rootOf, pointsOf}
 use Rattle.table.specs.Page.{page, held, shown, Shows, EntryFits}
 use Rattle.table.specs.Slots.{slots, isFree, levelAt, putPage, lowestFree, entryFor, withRoot, withPoints}

@@ -8,7 +8,7 @@ use borrow.Author.Tests.{le-leb, lt-leb}
 use Rattle.grid.specs.declared.rect.Rect.{Rect}
 use Rattle.order.specs.Lists.{All}
 use Rattle.table.specs.declared.node.Node.{Node}
-use Rattle.table.specs.Figures.{FAN}
+use Rattle.figures.specs.Figures.{FAN}
 use Rattle.table.specs.Words.{Words}
 use Rattle.table.specs.Page.{Page, page, held, shown, Shows, EntryFits, PageFits, coverOf}
 use Rattle.table.specs.Slots.{putPage, lowestFree}

@@ -6,7 +6,7 @@ use lib.Dec.{leb}
 use lib.IntN.{ℤ, pos}
 use lib.ListN.{length, set}
 use Rattle.table.specs.declared.node.Entry.{Entry}
-use Rattle.table.specs.Figures.{FAN}
+use Rattle.figures.specs.Figures.{FAN}
 use Rattle.table.specs.Words.{Words, rootOf, pointsOf}
 use Rattle.table.specs.Page.{page, coverOf}
 use Rattle.table.specs.Slots.{levelAt, entriesAt, putPage, lowestFree, entryFor, withRoot, withPoints}

@@ -9,7 +9,7 @@ use Rattle.grid.specs.Place.{RectOnGrid}
 use Rattle.order.specs.Lists.{count, All}
 use Rattle.table.specs.declared.node.Entry.{Entry}
 use Rattle.table.specs.declared.node.Node.{Node}
-use Rattle.table.specs.Figures.{SLOTS, LENGTH}
+use Rattle.figures.specs.Figures.{SLOTS, LENGTH}
 use Rattle.table.specs.Words.{Words}
 use Rattle.table.specs.Page.{held, EntryFits}
 use Rattle.table.specs.Slots.{slots, isFree, lowestFree, entryFor}

@@ -10,7 +10,7 @@ use borrow.Author.Tests.{eqb-true, ltb-true, ltb-false, lt-ltb, le-ltb}
 use Rattle.order.specs.Lists.{one, count, some, firstPlace, join, All}
 use Rattle.order.proofs.Lists.{by-bool, by-leb, count-append, all-append}
 use Rattle.table.specs.declared.node.Entry.{Entry}
-use Rattle.table.specs.Figures.{FAN, LEAST, SLOTS, LENGTH}
+use Rattle.figures.specs.Figures.{FAN, LEAST, SLOTS, LENGTH}
 use Rattle.table.specs.Words.{Words, partAt}
 use Rattle.table.specs.Page.{page, freeWords, without}
 use Rattle.table.specs.Slots.{entriesAt, putPage, entryFor}

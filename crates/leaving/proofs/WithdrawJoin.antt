@@ -10,7 +10,7 @@ use lib.Seq.{set-at, take-at, drop-at, getD-at}
 use Rattle.order.specs.Lists.{one, count, join, All}
 use Rattle.order.proofs.Lists.{by-leb, count-append, join-append, count-join, all-append}
 use Rattle.table.specs.declared.node.Entry.{Entry}
-use Rattle.table.specs.Figures.{FAN, LEAST, SLOTS, LENGTH}
+use Rattle.figures.specs.Figures.{FAN, LEAST, SLOTS, LENGTH}
 use Rattle.table.specs.Words.{Words, partAt}
 use Rattle.table.specs.Page.{page, freeWords, without, blankEntry}
 use Rattle.table.specs.Slots.{entriesAt, putPage, freed, entryFor}

@@ -15,7 +15,7 @@ use Rattle.order.specs.Lists.{Mem, All, NoDup}
 use Rattle.order.proofs.Lists.{by-bool, map-at, all-append, all-take, all-drop, all-set, all-at}
 use Rattle.table.specs.declared.node.Entry.{Entry}
 use Rattle.table.specs.declared.node.Node.{Node}
-use Rattle.table.specs.Figures.{FAN, LEAST, SLOTS, LENGTH}
+use Rattle.figures.specs.Figures.{FAN, LEAST, SLOTS, LENGTH}
 use Rattle.table.specs.Words.{Words}
 use Rattle.table.specs.Page.{Page, page, pageOf, held, shown, Shows, without, EntryFits, PageFits, blankEntry}
 use Rattle.table.specs.Slots.{pageAt, levelAt, entriesAt, putPage, freed, entryFor}

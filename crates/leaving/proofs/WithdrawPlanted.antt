@@ -10,7 +10,7 @@ use borrow.Author.Tests.{ltb-true, ltb-false, lt-ltb, le-ltb}
 use Rattle.order.specs.Lists.{some, firstPlace, All}
 use Rattle.order.proofs.Lists.{by-bool, all-mem}
 use Rattle.table.specs.declared.node.Entry.{Entry}
-use Rattle.table.specs.Figures.{SLOTS}
+use Rattle.figures.specs.Figures.{SLOTS}
 use Rattle.table.specs.Words.{Words}
 use Rattle.table.specs.declared.node.Node.{Node}
 use Rattle.table.specs.Page.{page, held, Shows}

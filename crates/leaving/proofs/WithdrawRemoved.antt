@@ -11,7 +11,7 @@ use Rattle.order.specs.Lists.{one, count, some, firstPlace, join, Mem, All}
 use Rattle.order.proofs.Lists.{by-bool, count-append, all-mem, mem-all, all-append, all-at}
 use Rattle.table.specs.declared.node.Entry.{Entry}
 use Rattle.table.specs.declared.node.Node.{Node}
-use Rattle.table.specs.Figures.{FAN, LEAST}
+use Rattle.figures.specs.Figures.{FAN, LEAST}
 use Rattle.table.specs.Words.{Words}
 use Rattle.table.specs.Page.{page, held, shown, Shows, without, EntryFits, PageFits, blankEntry}
 use Rattle.table.specs.Slots.{pageAt, levelAt, entriesAt, putPage}

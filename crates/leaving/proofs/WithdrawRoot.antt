@@ -13,7 +13,7 @@ use Rattle.order.specs.Lists.{has, Mem}
 use Rattle.order.proofs.Perm.{perm-map, perm-mem}
 use Rattle.order.proofs.Lists.{by-bool}
 use Rattle.table.specs.declared.node.Entry.{Entry}
-use Rattle.table.specs.Figures.{MOST, SLOTS, LENGTH}
+use Rattle.figures.specs.Figures.{MOST, SLOTS, LENGTH}
 use Rattle.table.specs.Words.{Words, rootOf, pointsOf}
 use Rattle.table.specs.Slots.{levelAt, entriesAt, freed, withPoints}
 use Rattle.table.specs.Stations.{stations, stationOfEntry}

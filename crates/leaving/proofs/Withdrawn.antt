@@ -15,7 +15,7 @@ use Rattle.order.specs.Order.{Perm}
 use Rattle.order.proofs.Perm.{psym, perm-length, perm-map, perm-mem}
 use Rattle.order.proofs.Lists.{by-bool, by-leb, count-append, perm-count, all-mem, all-at, perm-nodup}
 use Rattle.table.specs.declared.node.Entry.{Entry}
-use Rattle.table.specs.Figures.{LEAST, SLOTS, LENGTH}
+use Rattle.figures.specs.Figures.{LEAST, SLOTS, LENGTH}
 use Rattle.table.specs.Words.{Words, word, pointsOf, partAt}
 use Rattle.table.specs.Page.{freeWords, blankEntry}
 use Rattle.table.specs.Empty.{emptyTable}

@@ -10,7 +10,7 @@ use Rattle.axis.specs.Word.{IsWord}
 use Rattle.grid.specs.Place.{RectOnGrid}
 use Rattle.order.specs.Lists.{firstPlace, has, some, All, NoDup}
 use Rattle.table.specs.declared.node.Entry.{Entry}
-use Rattle.table.specs.Figures.{FAN, LEAST, SLOTS, LENGTH}
+use Rattle.figures.specs.Figures.{FAN, LEAST, SLOTS, LENGTH}
 use Rattle.table.specs.Words.{Words, rootOf, pointsOf}
 use Rattle.table.specs.declared.node.Node.{Node}
 use Rattle.table.specs.Page.{Page, page, held, EntryFits, PageFits, without}

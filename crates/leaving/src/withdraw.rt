@@ -5,14 +5,14 @@ ghost use Prim.Native.Nat.{_-_, _≤_, _<_};
 ghost use lib.Dec.{eqb};
 ghost use lib.ListN.{length};
 ghost use Rattle.order.specs.Lists.{firstPlace, All};
-ghost use Rattle.table.specs.Figures.{FAN, SLOTS, LENGTH};
+ghost use Rattle.figures.specs.Figures.{FAN, SLOTS, LENGTH};
 ghost use Rattle.change.specs.Choose.{entryIn};
 ghost use Rattle.table.specs.Page.{page, held, shown, Shows};
 ghost use Rattle.change.specs.Planted.{Planted};
 ghost use Rattle.leaving.specs.Withdraw.{holds as holdsOf, tightAt, jointAt, sharedOut, merged, shared, joined, lowerPlace, mended, removed, lowered, withdrawn};
 ghost use Rattle.leaving.specs.Withdraw.{Removable, MayShare, Mendable, Joinable, Lowerable, MayWithdraw};
 use change::share::lined;
-use table::figures::Table;
+use figures::Table;
 use table::node::Node;
 use table::slot;
 

@@ -6,8 +6,8 @@ ghost use Rattle.clerk.specs.Sheet.{LONGEST, tooLongLine};
 ghost use Rattle.clerk.specs.Running.{Passes, longestLine};
 use clerk::run::run_lines;
 use clerk::start::clear;
+use figures::Table;
 use sheet::output::put_line;
-use table::figures::Table;
 use table::given::Given;
 use table::given::number_given;
 

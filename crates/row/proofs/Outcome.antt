@@ -21,7 +21,7 @@ use Rattle.order.specs.Order.{upFrom}
 use Rattle.order.proofs.Lists.{all-at, map-at}
 use Rattle.order.proofs.Order.{pick-all, up-all}
 use Rattle.table.specs.declared.node.Entry.{Entry}
-use Rattle.table.specs.Figures.{MOST}
+use Rattle.figures.specs.Figures.{MOST}
 use Rattle.table.specs.Words.{Words, word, isMinusOne, pointsOf}
 use Rattle.table.specs.Page.{blankEntry}
 use Rattle.table.specs.Slots.{slots, isFree}

@@ -10,7 +10,7 @@ use Rattle.grid.specs.Nearer.{nearer}
 use Rattle.grid.specs.Place.{spotOf, dist²}
 use Rattle.order.specs.Lists.{All, filter, count}
 use Rattle.table.specs.declared.node.Entry.{Entry}
-use Rattle.table.specs.Figures.{LENGTH}
+use Rattle.figures.specs.Figures.{LENGTH}
 use Rattle.table.specs.Words.{Words}
 use Rattle.table.specs.Stations.{isPoint}
 use Rattle.audit.specs.Rules.{wellFormed}

@@ -10,9 +10,9 @@ ghost use Rattle.row.specs.Asked.{Askable, Listed};
 use crate::fill::fill;
 use crate::keep::keep_passing;
 use crate::record::Candidate;
+use figures::Table;
 use filter::answering::put_rising;
 use filter::seen::Seen;
-use table::figures::Table;
 
 // n answers, m candidates, o nodes opened.
 pub struct Reply {

@@ -3,9 +3,9 @@ ghost use lib.ListN.{length};
 ghost use Rattle.row.specs.Asked.{Askable, Filled};
 use crate::hand::hand_over;
 use crate::record::Candidate;
+use figures::Table;
 use filter::find::find;
 use filter::seen::Seen;
-use table::figures::Table;
 
 // Room for a word, and for a square, of as many candidates as a table has points.
 fn words() -> [i32; Table::MOST] {

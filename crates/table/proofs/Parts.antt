@@ -15,7 +15,7 @@ use lib.Seq.{drop-drop, take-suc, take-suc-set, take-all, length-take-le}
 use Rattle.axis.specs.Word.{stepsOf, wordOf}
 use Rattle.order.specs.Order.{upFrom}
 use Rattle.table.specs.declared.node.Entry.{Entry}
-use Rattle.table.specs.Figures.{FAN, ENTRY, WIDTH}
+use Rattle.figures.specs.Figures.{FAN, ENTRY, WIDTH}
 use Rattle.table.specs.Words.{Words, word, isMinusOne, startOf, partAt, placed}
 use Rattle.table.specs.Page.{entryWords, entriesWords, page, pageWords, freeWords}
 use Rattle.table.proofs.Placed.{placed-more}

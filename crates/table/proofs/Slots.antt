@@ -19,7 +19,7 @@ use Rattle.order.specs.Order.{upFrom}
 use Rattle.order.proofs.Lists.{by-bool, map-at, all-at}
 use Rattle.order.proofs.Order.{up-length, up-at}
 use Rattle.table.specs.declared.node.Entry.{Entry}
-use Rattle.table.specs.Figures.{FAN, SLOTS, ENTRY, WIDTH, LENGTH}
+use Rattle.figures.specs.Figures.{FAN, SLOTS, ENTRY, WIDTH, LENGTH}
 use Rattle.table.specs.Words.{Words, word, isMinusOne, startOf, partAt, placed}
 use Rattle.table.specs.Page.{Page, entryOf, filled, pageOf, entryWords, entriesWords, pageWords, freeWords, EntryFits, PageFits, blankEntry}
 use Rattle.table.specs.Slots.{isFree, pageAt, entriesAt, putPage, freed, lowestFree}

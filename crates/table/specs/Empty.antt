@@ -2,7 +2,7 @@
 use Prim.Native.Nat.{ℕ, zero, suc}
 use mathlib.Core.List.{List, [], _∷_, _++_}
 use lib.IntN.{ℤ, pos, negsuc}
-use Rattle.table.specs.Figures.{SLOTS}
+use Rattle.figures.specs.Figures.{SLOTS}
 use Rattle.table.specs.Words.{Words}
 use Rattle.table.specs.Page.{freeWords}
 

@@ -1,4 +1,3 @@
-pub mod Figures
 pub mod Words
 pub mod Page
 pub mod Slots

@@ -11,7 +11,7 @@ use Rattle.order.specs.Order.{upFrom}
 use Rattle.order.specs.Lists.{All}
 use Rattle.table.specs.declared.node.Entry.{Entry}
 use Rattle.table.specs.declared.node.Node.{Node}
-use Rattle.table.specs.Figures.{FAN, ENTRY}
+use Rattle.figures.specs.Figures.{FAN, ENTRY}
 use Rattle.table.specs.Words.{Words, word}
 
 pub record Page : Type 0 where

@@ -7,7 +7,7 @@ use lib.ListN.{set}
 use Rattle.order.specs.Order.{upFrom}
 use Rattle.order.specs.Lists.{firstPlace}
 use Rattle.table.specs.declared.node.Entry.{Entry}
-use Rattle.table.specs.Figures.{SLOTS}
+use Rattle.figures.specs.Figures.{SLOTS}
 use Rattle.table.specs.Words.{Words, word, isMinusOne, startOf, partAt, placed}
 use Rattle.table.specs.Page.{Page, pageOf, pageWords, freeWords, coverOf}
 

@@ -11,7 +11,7 @@ use Rattle.axis.specs.declared.span.Span.{Span}
 use Rattle.order.specs.Order.{upFrom}
 use Rattle.order.specs.Lists.{join}
 use Rattle.table.specs.declared.node.Entry.{Entry}
-use Rattle.table.specs.Figures.{ENTRY, HIGHEST}
+use Rattle.figures.specs.Figures.{ENTRY, HIGHEST}
 use Rattle.table.specs.Words.{Words, between, word, partAt}
 use Rattle.table.specs.Page.{filled}
 use Rattle.table.specs.Slots.{slots, levelAt}

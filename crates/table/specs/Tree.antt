@@ -7,7 +7,7 @@ use lib.IntN.{ℤ, pos}
 use lib.ListN.{length}
 use Rattle.order.specs.Lists.{join, Mem, All, NoDup}
 use Rattle.table.specs.declared.node.Entry.{Entry}
-use Rattle.table.specs.Figures.{FAN, LEAST, MOST, SLOTS, LENGTH}
+use Rattle.figures.specs.Figures.{FAN, LEAST, MOST, SLOTS, LENGTH}
 use Rattle.table.specs.Words.{Words, word, partAt}
 use Rattle.table.specs.Page.{page, pageWords, freeWords, coverOf}
 use Rattle.table.specs.Stations.{isPoint}

@@ -6,7 +6,7 @@ use lib.Dec.{eqb, leb}
 use lib.IntN.{ℤ, pos, negsuc}
 use lib.ListN.{length, getD, take, drop, set}
 use Rattle.axis.specs.Word.{natOf}
-use Rattle.table.specs.Figures.{WIDTH}
+use Rattle.figures.specs.Figures.{WIDTH}
 
 -- a number lies from a to b
 abbrev pub between : ℕ → ℕ → ℕ → Bool

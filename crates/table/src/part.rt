@@ -2,14 +2,14 @@
 ghost use mathlib.Core.Path.{_≡_};
 ghost use Prim.Native.Nat.{_+_, _*_, _≤_, _<_};
 ghost use lib.ListN.{length};
-ghost use Rattle.table.specs.Figures.{FAN, WIDTH, ENTRY};
+ghost use Rattle.figures.specs.Figures.{FAN, WIDTH, ENTRY};
 ghost use Rattle.table.specs.Words.{placed, word, isMinusOne};
 ghost use Rattle.table.specs.Page.{Shows, shown, EntryFits, PageFits, entryOf, filled, pageOf, entryWords, pageWords, freeWords};
-use crate::figures::Table;
 use crate::node::Entry;
 use crate::node::Node;
 use axis::border;
 use axis::span::Span;
+use figures::Table;
 use grid::rect::Rect;
 
 // The word −1, in steps: the level of a free slot, and the root of an empty table.

@@ -3,15 +3,15 @@ ghost use mathlib.Core.Path.{_≡_};
 ghost use Prim.Native.Nat.{_≤_, _<_, _^_};
 ghost use lib.IntN.{pos, negsuc};
 ghost use lib.ListN.{length, getD};
-ghost use Rattle.table.specs.Figures.{FAN, SLOTS, LENGTH};
+ghost use Rattle.figures.specs.Figures.{FAN, SLOTS, LENGTH};
 ghost use Rattle.table.specs.Words.{rootOf, pointsOf, startOf};
 ghost use Rattle.table.specs.Page.{Shows, shown, PageFits, blankEntry};
 ghost use Rattle.table.specs.Slots.{isFree, pageAt, levelAt, entriesAt, putPage, freed, lowestFree, entryFor, withRoot, withPoints};
-use crate::figures::Table;
 use crate::node::Entry;
 use crate::node::Node;
 use crate::part;
 use axis::border;
+use figures::Table;
 
 // Where a slot's words start, and those of the slot before it end.
 fn start(slot: usize) -> usize

@@ -1,5 +1,6 @@
 // A test of the check: reads tables from standard input, one to a line, and writes the check's number for each.
 // A line has the table's length, then the place and the value of each word that is not the empty table's. `second tables` makes the lines.
+use figures::Table;
 use libc::STDOUT_FILENO;
 use sheet::fields::field;
 use sheet::fields::field_count;
@@ -7,7 +8,6 @@ use sheet::lines::line_at;
 use sheet::lines::next_at;
 use sheet::number::Read;
 use sheet::number::read_number;
-use table::figures::Table;
 use table::given::number_given;
 
 // The number in field i, or 0 if it is none.

@@ -9,7 +9,7 @@ use lib.ListN.{length, getD}
 use Rattle.order.specs.Lists.{every, All}
 use Rattle.order.proofs.Lists.{by-bool}
 use Rattle.table.specs.declared.given.Given.the-variants.{Done, NotWellFormed}
-use Rattle.table.specs.Figures.{LENGTH}
+use Rattle.figures.specs.Figures.{LENGTH}
 use Rattle.table.specs.Words.{Words}
 use Rattle.table.specs.Slots.{slots}
 use Rattle.audit.specs.Rules.{rule1, rule2, rule3, rule4, rule5, rule6, rule7, rule7Header, wellFormed}

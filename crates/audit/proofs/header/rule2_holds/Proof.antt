@@ -2,7 +2,7 @@
 use mathlib.Core.Path.{_≡_, ap, sym, _∙_}
 use mathlib.Core.Bool.{true, false}
 use borrow.Author.Tests.{lt-ltb, le-ltb, le-leb, lt-leb}
-use Rattle.table.specs.Figures.{SLOTS, MOST}
+use Rattle.figures.specs.Figures.{SLOTS, MOST}
 use Rattle.table.specs.Words.{rootOf, between}
 use Rattle.table.specs.Slots.{isFree}
 use Rattle.audit.specs.Rules.{isEmpty, rule2}

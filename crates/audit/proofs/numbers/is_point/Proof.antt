@@ -1,6 +1,6 @@
 -- `numbers::is_point` meets its contract: the tests in their order. Assumes nothing.
 use borrow.Author.Tests.{le-leb, lt-leb}
-use Rattle.table.specs.Figures.{HIGHEST}
+use Rattle.figures.specs.Figures.{HIGHEST}
 use Rattle.audit.proofs.Every.{failed, passed}
 use borrow.Author.Needs.{needs}
 use Rattle.audit.proofs.numbers.is_point.Statement.{statement}

@@ -5,7 +5,7 @@ use mathlib.Core.Path.{_≡_, sym, subst}
 use mathlib.Core.Bool.{true, false}
 use mathlib.Core.List.{List}
 use lib.ListN.{getD, take, drop}
-use Rattle.table.specs.Figures.{HIGHEST}
+use Rattle.figures.specs.Figures.{HIGHEST}
 use Rattle.table.specs.Page.{held, blankEntry}
 use Rattle.table.specs.Stations.{isPoint}
 use Rattle.table.proofs.Nodes.{full}

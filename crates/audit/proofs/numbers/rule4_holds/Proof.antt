@@ -5,7 +5,7 @@ use mathlib.Core.Path.{sym}
 use borrow.Author.Tests.{not-false}
 use Rattle.order.specs.Lists.{join}
 use Rattle.order.specs.Order.{upFrom}
-use Rattle.table.specs.Figures.{SLOTS}
+use Rattle.figures.specs.Figures.{SLOTS}
 use Rattle.audit.specs.Rules.{numbersAt, rule4}
 use Rattle.audit.specs.Seen.{Marks}
 use Rattle.audit.proofs.Every.{Tested, none-tested, one-tested, failed, passed, one-fails, all-pass}

@@ -4,7 +4,7 @@ use native.Mathlib.Omega.{arith}
 use mathlib.Core.Path.{_≡_, subst, _∙_}
 use mathlib.Core.List.{List, [], _∷_, _++_, append-nil, append-assoc}
 use lib.ListN.{length, getD, take, length-set}
-use Rattle.table.specs.Figures.{FAN, SLOTS}
+use Rattle.figures.specs.Figures.{FAN, SLOTS}
 use Rattle.table.specs.Page.{blankEntry}
 use Rattle.table.proofs.Nodes.{full}
 use Rattle.audit.specs.Seen.{refsOf, Tally}

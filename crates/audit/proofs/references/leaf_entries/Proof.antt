@@ -5,7 +5,7 @@ use native.Mathlib.Omega.{arith}
 use lib.ListN.{length}
 use Rattle.order.specs.Lists.{join}
 use Rattle.order.specs.Order.{upFrom}
-use Rattle.table.specs.Figures.{FAN, SLOTS}
+use Rattle.figures.specs.Figures.{FAN, SLOTS}
 use Rattle.table.specs.Stations.{stationsAt, stations}
 use Rattle.audit.proofs.Gathered.{length-more, points-few}
 use Rattle.audit.proofs.references.leaf_entries.Statement.{statement}

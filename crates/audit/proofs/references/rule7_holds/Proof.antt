@@ -7,7 +7,7 @@ use borrow.Author.Tests.{eq-eqb, ne-eqb}
 use lib.ListN.{length}
 use Rattle.order.specs.Lists.{join, every}
 use Rattle.order.specs.Order.{upFrom}
-use Rattle.table.specs.Figures.{SLOTS}
+use Rattle.figures.specs.Figures.{SLOTS}
 use Rattle.table.specs.Words.{pointsOf}
 use Rattle.table.specs.Slots.{slots}
 use Rattle.table.specs.Stations.{stations}

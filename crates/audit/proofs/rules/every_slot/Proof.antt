@@ -2,7 +2,7 @@
 use Prim.Native.Nat.{_-_}
 use native.Mathlib.Omega.{arith}
 use mathlib.Core.Path.{sym}
-use Rattle.table.specs.Figures.{SLOTS}
+use Rattle.figures.specs.Figures.{SLOTS}
 use Rattle.audit.specs.Asked.{ruleAt}
 use Rattle.audit.proofs.Every.{Tested, none-tested, one-tested, failed, passed, one-fails, all-pass}
 use Rattle.audit.proofs.rules.every_slot.Statement.{statement}

@@ -2,7 +2,7 @@
 use native.Mathlib.Omega.{arith}
 use mathlib.Core.Path.{subst}
 use borrow.Author.Needs.{needs}
-use Rattle.table.specs.Figures.{SLOTS}
+use Rattle.figures.specs.Figures.{SLOTS}
 use Rattle.audit.specs.Rules.{rule5}
 use Rattle.audit.specs.Asked.{Before}
 use Rattle.audit.proofs.Counted.{every-below}

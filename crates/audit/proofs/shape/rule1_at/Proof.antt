@@ -3,7 +3,7 @@ use Prim.Native.Nat.{_+_}
 use native.Mathlib.Omega.{arith}
 use mathlib.Core.Path.{_≡_, refl, sym, _∙_}
 use mathlib.Core.Bool.{true, false}
-use Rattle.table.specs.Figures.{WIDTH}
+use Rattle.figures.specs.Figures.{WIDTH}
 use Rattle.table.specs.Words.{word, isMinusOne, startOf, partAt}
 use Rattle.table.specs.Page.{filled}
 use Rattle.audit.specs.Rules.{rule1}

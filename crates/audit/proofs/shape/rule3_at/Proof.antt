@@ -5,7 +5,7 @@ use mathlib.Core.Bool.{true, false}
 use native.Mathlib.Omega.{arith}
 use borrow.Author.Tests.{le-leb, lt-leb}
 use Rattle.axis.specs.Word.{natOf}
-use Rattle.table.specs.Figures.{FAN}
+use Rattle.figures.specs.Figures.{FAN}
 use Rattle.table.specs.Words.{Words, word, startOf, partAt, between}
 use Rattle.table.specs.Slots.{isFree}
 use Rattle.audit.specs.Rules.{rule3}

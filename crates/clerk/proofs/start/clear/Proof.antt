@@ -3,7 +3,7 @@ use Prim.Native.Nat.{_+_, _-_, _≤_}
 use mathlib.Core.Path.{sym, ap, subst, _∙_}
 use native.Mathlib.Omega.{arith}
 use borrow.Author.Needs.{needs}
-use Rattle.table.specs.Figures.{SLOTS}
+use Rattle.figures.specs.Figures.{SLOTS}
 use Rattle.table.specs.Slots.{withPoints}
 use Rattle.clerk.proofs.Cleared.{Cleared, cleared-none, cleared-more, cleared-all}
 use Rattle.clerk.proofs.start.clear.Statement.{statement}

@@ -45,7 +45,7 @@ use denote.Triple.Table.{entered, cited}
 use denote.Triple.Walked.{says, needs, Stays, gave-slice, stay-none-slice, stay-none, walkOf, goes-gave-slice, goes-none-slice, goes-none, Walks, ends-at, walked, walk-meets}
 use denote.Exit.{yes}
 use Rattle.grid.specs.Site.{Site}
-use Rattle.table.specs.Figures.{LENGTH}
+use Rattle.figures.specs.Figures.{LENGTH}
 use Rattle.audit.specs.Rules.{wellFormed}
 use Rattle.row.specs.declared.record.Candidate.{Candidate}
 use Rattle.row.proofs.record.Candidate as C′

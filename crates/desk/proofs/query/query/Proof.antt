@@ -65,7 +65,7 @@ use Rattle.desk.proofs.query.refused.Symbol as refused-def
 use Rattle.desk.proofs.query.refused.Symbol.{name as #desk·query·refused}
 use Rattle.desk.proofs.query.refused.Met as refused-thm
 use Rattle.audit.specs.Check.{checkGives}
-use Rattle.table.specs.Figures.{LENGTH}
+use Rattle.figures.specs.Figures.{LENGTH}
 use Rattle.audit.specs.Rules.{wellFormed}
 use Rattle.desk.proofs.CallOrder.{passes}
 use Rattle.audit.proofs.check as check

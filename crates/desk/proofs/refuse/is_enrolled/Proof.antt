@@ -6,7 +6,7 @@ use mathlib.Core.Bool.{false}
 use borrow.Author.Count.{below-none, below-more}
 use Rattle.axis.proofs.Machine.{natural-passed}
 use Rattle.order.specs.Lists.{has}
-use Rattle.table.specs.Figures.{SLOTS}
+use Rattle.figures.specs.Figures.{SLOTS}
 use Rattle.audit.specs.Rules.{numbersAt}
 use Rattle.desk.specs.Refusals.{numbersOf}
 use Rattle.desk.proofs.CallNumbers.{found-in, found-in-none}

@@ -1,7 +1,7 @@
 -- `refuse::is_full` meets its contract. Assumes nothing.
 use mathlib.Core.Path.{ap}
 use lib.Dec.{leb}
-use Rattle.table.specs.Figures.{MOST}
+use Rattle.figures.specs.Figures.{MOST}
 use borrow.Author.Needs.{needs}
 use Rattle.desk.proofs.refuse.is_full.Statement.{statement}
 use Rattle.desk.proofs.refuse.is_full.Tie as tie

@@ -1,6 +1,6 @@
 -- `refuse::no_such_number` meets its contract: outside the range on either side. Assumes nothing.
 use native.Mathlib.Omega.{arith}
-use Rattle.table.specs.Figures.{HIGHEST}
+use Rattle.figures.specs.Figures.{HIGHEST}
 use Rattle.axis.proofs.Machine.{natural-passed}
 use Rattle.desk.proofs.CallTests.{below-range, beyond-range}
 use borrow.Author.Needs.{needs}

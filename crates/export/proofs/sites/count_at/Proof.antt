@@ -2,7 +2,7 @@
 use mathlib.Core.Path.{_≡_}
 use native.Mathlib.Omega.{arith}
 use lib.ListN.{length}
-use Rattle.table.specs.Figures.{MOST}
+use Rattle.figures.specs.Figures.{MOST}
 use Rattle.desk.specs.Refusals.{site}
 use Rattle.desk.specs.Alone.{AnswersAlone}
 use Rattle.desk.proofs.CallTests.{three-back}

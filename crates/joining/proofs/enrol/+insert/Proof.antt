@@ -7,7 +7,7 @@ use borrow.Author.Needs.{needs}
 use Rattle.grid.specs.Place.{RectOnGrid}
 use Rattle.order.specs.Lists.{All}
 use Rattle.table.specs.declared.node.Entry.{Entry}
-use Rattle.table.specs.Figures.{FAN}
+use Rattle.figures.specs.Figures.{FAN}
 use Rattle.table.specs.Words.{Words}
 use Rattle.table.specs.Page.{held}
 use Rattle.table.proofs.Nodes.{held-few}

@@ -3,7 +3,7 @@ use Prim.Native.Nat.{_-_, _<_}
 use mathlib.Core.Path.{sym, subst}
 use native.Mathlib.Omega.{arith}
 use borrow.Author.Needs.{needs}
-use Rattle.table.specs.Figures.{SLOTS}
+use Rattle.figures.specs.Figures.{SLOTS}
 use Rattle.table.specs.Page.{held, shown}
 use Rattle.table.proofs.Nodes.{full}
 use Rattle.leaving.proofs.WithdrawPages.{pair-room, first-child, pair-inside, pair-ten, pair-shows, join-merges, join-shares}

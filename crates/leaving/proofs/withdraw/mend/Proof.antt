@@ -4,7 +4,7 @@ use mathlib.Core.Path.{sym, ap, subst, _∙_}
 use native.Mathlib.Omega.{arith}
 use borrow.Author.Needs.{needs}
 use lib.ListN.{length}
-use Rattle.table.specs.Figures.{SLOTS, LEAST}
+use Rattle.figures.specs.Figures.{SLOTS, LEAST}
 use Rattle.table.specs.Page.{page, held, shown}
 use Rattle.table.specs.Slots.{entriesAt, putPage}
 use Rattle.table.proofs.Nodes.{full, shown-page}

@@ -3,7 +3,7 @@ use Prim.Native.Nat.{_<_}
 use mathlib.Core.Path.{sym, ap, subst, _∙_}
 use native.Mathlib.Omega.{arith}
 use lib.ListN.{length}
-use Rattle.table.specs.Figures.{SLOTS}
+use Rattle.figures.specs.Figures.{SLOTS}
 use Rattle.table.specs.Slots.{levelAt}
 use Rattle.leaving.specs.Withdraw.{Removable, Lowerable}
 use Rattle.leaving.proofs.WithdrawRoot.{may-inside, may-removable, may-lowerable, may-points, lowered-long, removed-is, withdrawn-is-done}

@@ -51,7 +51,7 @@ use Rattle.axis.specs.Word.{IsWord, onGrid}
 use Rattle.grid.specs.Site.{Site, placeOf}
 use Rattle.grid.proofs.Site.{SiteOnGrid}
 use Rattle.order.specs.Lists.{All}
-use Rattle.table.specs.Figures.{LENGTH}
+use Rattle.figures.specs.Figures.{LENGTH}
 use Rattle.table.specs.Words.{pointsOf}
 use Rattle.audit.specs.Rules.{wellFormed}
 use Rattle.filter.specs.declared.seen.Seen.{Seen}

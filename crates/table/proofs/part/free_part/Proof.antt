@@ -4,7 +4,7 @@ use mathlib.Core.Path.{_≡_, ap, _∙_}
 use native.Mathlib.Omega.{arith}
 use borrow.Author.Needs.{needs}
 use lib.ListN.{length, take}
-use Rattle.table.specs.Figures.{WIDTH}
+use Rattle.figures.specs.Figures.{WIDTH}
 use Rattle.table.specs.Page.{freeWords}
 use Rattle.table.proofs.Parts.{free-first, free-step, free-all}
 use Rattle.table.proofs.part.free_part.Statement.{statement}

@@ -6,7 +6,7 @@ use borrow.Author.Needs.{needs}
 use lib.ListN.{length, getD, take}
 use lib.Seq.{getD-take}
 use Rattle.order.proofs.Lists.{all-at}
-use Rattle.table.specs.Figures.{WIDTH}
+use Rattle.figures.specs.Figures.{WIDTH}
 use Rattle.table.specs.Words.{placed}
 use Rattle.table.specs.Page.{held, blankEntry, EntryFits, entriesWords}
 use Rattle.table.proofs.Nodes.{full, held-length}
