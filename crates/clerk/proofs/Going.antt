@@ -11,9 +11,9 @@ use Rattle.order.proofs.Lists.{by-bool}
 use Rattle.desk.specs.Demands.{Passing}
 use Rattle.sheet.specs.Bytes.{Bytes, FEED}
 use Rattle.sheet.specs.Marks.{lineOf, nextOf}
-use Rattle.sheet.specs.Output.{Laid}
+use Rattle.slip.specs.Output.{Laid}
 use Rattle.sheet.proofs.Parted.{next-within, next-beyond}
-use Rattle.sheet.proofs.Laid.{laid-none, laid-then}
+use Rattle.slip.proofs.Laid.{laid-none, laid-then}
 use Rattle.clerk.specs.declared.run.Run.{Run}
 use Rattle.clerk.specs.Sheet.{State, ranLine, lineOutput}
 use Rattle.clerk.specs.Running.{longestLine, RanOne, Stand, standAt, lineRun, goesOn, linesRun, runFrom, LeftAt, RanLines}

@@ -23,7 +23,7 @@ use Rattle.sheet.specs.Bytes.{Bytes}
 use Rattle.sheet.specs.declared.job.Job.{Job}
 use Rattle.sheet.specs.declared.job.Job.the-variants.{Enrol, Withdraw, Query, MissingK, Misshapen}
 use Rattle.sheet.specs.Job.{ENROL, WITHDRAW, QUERY, jobOf}
-use Rattle.sheet.specs.Output.{outputLine, Laid}
+use Rattle.slip.specs.Output.{outputLine, Laid}
 use Rattle.clerk.specs.Sheet.{State, granted, ranLine, lineOutput}
 use Rattle.clerk.specs.Running.{lent, jobOutput, RanJob, RanOne}
 

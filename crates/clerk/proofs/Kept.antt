@@ -20,8 +20,8 @@ use Rattle.sheet.specs.Bytes.{Bytes}
 use Rattle.sheet.specs.declared.job.Job.{Job}
 use Rattle.sheet.specs.declared.job.Job.the-variants.{Enrol, Withdraw, Query, MissingK, Misshapen}
 use Rattle.sheet.specs.Job.{jobOf}
-use Rattle.sheet.specs.Output.{letterOf}
-use Rattle.sheet.proofs.Decimal.{line-room}
+use Rattle.slip.specs.Output.{letterOf}
+use Rattle.slip.proofs.Decimal.{line-room}
 use Rattle.clerk.specs.Sheet.{State, granted, ranJob, ranLine, lineOutput}
 use Rattle.clerk.specs.Running.{longestLine}
 

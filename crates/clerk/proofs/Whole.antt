@@ -14,7 +14,7 @@ use Rattle.table.specs.Empty.{emptyTable}
 use Rattle.sheet.specs.Bytes.{Bytes, FEED, linesOf}
 use Rattle.sheet.specs.Marks.{lineOf}
 use Rattle.sheet.proofs.Parted.{lines-done, lines-more, next-beyond}
-use Rattle.sheet.proofs.Laid.{laid-front}
+use Rattle.slip.proofs.Laid.{laid-front}
 use Rattle.clerk.specs.declared.run.Run.{Run}
 use Rattle.clerk.specs.Sheet.{State, lineOutput, linesOutput, LONGEST, start, sheetOutput}
 use Rattle.clerk.specs.Running.{lent, longestLine, Stand, standAt, lineRun, goesOn, linesRun, runFrom, LeftAt, restOutput, LineByLine, emptied, runsOutput, RunPrints, WholeSheet}

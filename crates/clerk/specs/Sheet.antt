@@ -17,7 +17,7 @@ use Rattle.sheet.specs.Bytes.{Bytes, linesOf}
 use Rattle.sheet.specs.declared.job.Job.{Job}
 use Rattle.sheet.specs.declared.job.Job.the-variants.{Enrol, Withdraw, Query, MissingK, Misshapen}
 use Rattle.sheet.specs.Job.{jobOf}
-use Rattle.sheet.specs.Output.{letterOf, outputLine}
+use Rattle.slip.specs.Output.{letterOf, outputLine}
 
 -- the table and the answer list; the candidate list is the query's own
 pub record State : Type 0 where

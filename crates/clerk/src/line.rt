@@ -8,8 +8,8 @@ use desk::enrol::enrol_passing;
 use desk::withdraw::withdraw_passing;
 use sheet::job::Job;
 use sheet::job::job_of;
-use sheet::output::put_answers;
-use sheet::output::put_line;
+use slip::put_answers;
+use slip::put_line;
 use table::given::Given;
 use table::given::number_given;
 

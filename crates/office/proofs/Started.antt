@@ -5,7 +5,7 @@ use Rattle.table.specs.Empty.{emptyTable}
 use Rattle.table.specs.Words.{Words}
 use Rattle.audit.proofs.EmptyTable.{empty-blank}
 use Rattle.audit.proofs.WellFormed.{empty-well-formed}
-use Rattle.sheet.specs.Output.{decimal, headOf, outputLine}
+use Rattle.slip.specs.Output.{decimal, headOf, outputLine}
 use Rattle.clerk.specs.Sheet.{tooLongLine}
 use Rattle.clerk.specs.Running.{Passes}
 

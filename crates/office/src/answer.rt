@@ -1,13 +1,13 @@
 // Answering a sheet: the clerk fills the output buffer, the buffer is written, and so on to the sheet's end.
 ghost use Prim.Native.Nat.{_≤_};
 ghost use lib.ListN.{length};
-ghost use Rattle.sheet.specs.Output.{Laid};
+ghost use Rattle.slip.specs.Output.{Laid};
 ghost use Rattle.clerk.specs.Sheet.{LONGEST, tooLongLine};
 ghost use Rattle.clerk.specs.Running.{Passes, longestLine};
 use clerk::run::run_lines;
 use clerk::start::clear;
 use figures::Table;
-use sheet::output::put_line;
+use slip::put_line;
 use table::given::Given;
 use table::given::number_given;
 

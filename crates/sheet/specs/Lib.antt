@@ -2,4 +2,3 @@ pub mod Bytes
 pub mod Marks
 pub mod Number
 pub mod Job
-pub mod Output

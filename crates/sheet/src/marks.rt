@@ -2,9 +2,9 @@
 ghost use mathlib.Core.Path.{_≡_};
 ghost use Rattle.sheet.specs.Marks.{stopFrom, nextFrom};
 
-pub(crate) const TAB: u8 = 9;
+pub const TAB: u8 = 9;
 
-pub(crate) const FEED: u8 = 10;
+pub const FEED: u8 = 10;
 
 // The place of the first mark from a place on, or the end.
 pub(crate) fn stop_from(bytes: &[u8], at: usize, mark: u8) -> usize

@@ -1,12 +1,12 @@
--- `sheet::output::put_counts` meets its contract: three runs, one behind the other. Assumes nothing.
+-- `slip::put_counts` meets its contract: three runs, one behind the other. Assumes nothing.
 use mathlib.Core.List.{[], _∷_}
 use native.Mathlib.Omega.{arith}
 use borrow.Author.Needs.{needs}
-use Rattle.sheet.specs.Output.{decimal, tabbed}
-use Rattle.sheet.proofs.Laid.{laid-within, laid-then}
-use Rattle.sheet.proofs.Decimal.{tabbed-cons, number-room}
-use Rattle.sheet.proofs.output.put_counts.Statement.{statement}
-use Rattle.sheet.proofs.output.put_counts.Tie as tie
+use Rattle.slip.specs.Output.{decimal, tabbed}
+use Rattle.slip.proofs.Laid.{laid-within, laid-then}
+use Rattle.slip.proofs.Decimal.{tabbed-cons, number-room}
+use Rattle.slip.proofs.put_counts.Statement.{statement}
+use Rattle.slip.proofs.put_counts.Tie as tie
 
 put-number-requires : tie.Need-put-number-requires
 put-number-requires c κs = search needs

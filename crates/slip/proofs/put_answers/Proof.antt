@@ -1,16 +1,16 @@
--- `sheet::output::put_answers` meets its contract: four runs, one behind the other. Assumes nothing.
+-- `slip::put_answers` meets its contract: four runs, one behind the other. Assumes nothing.
 use Prim.Native.Nat.{_*_}
 use mathlib.Core.List.{[], _∷_, map}
 use native.Mathlib.Omega.{arith}
 use borrow.Author.Needs.{needs}
 use lib.ListN.{take}
 use Rattle.sheet.specs.Bytes.{FEED}
 use Rattle.sheet.specs.Job.{QUERY}
-use Rattle.sheet.specs.Output.{decimal, tabbed, headOf, outputLine}
-use Rattle.sheet.proofs.Laid.{laid-within, laid-then}
-use Rattle.sheet.proofs.Decimal.{head-room, counts-room, tabbed-room, tabbed-apart}
-use Rattle.sheet.proofs.output.put_answers.Statement.{statement}
-use Rattle.sheet.proofs.output.put_answers.Tie as tie
+use Rattle.slip.specs.Output.{decimal, tabbed, headOf, outputLine}
+use Rattle.slip.proofs.Laid.{laid-within, laid-then}
+use Rattle.slip.proofs.Decimal.{head-room, counts-room, tabbed-room, tabbed-apart}
+use Rattle.slip.proofs.put_answers.Statement.{statement}
+use Rattle.slip.proofs.put_answers.Tie as tie
 
 put-head-requires : tie.Need-put-head-requires
 put-head-requires c κs = search needs

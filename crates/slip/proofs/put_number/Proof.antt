@@ -1,13 +1,13 @@
--- `sheet::output::put_number` meets its contract: a tab, then the digits behind it. Assumes nothing.
+-- `slip::put_number` meets its contract: a tab, then the digits behind it. Assumes nothing.
 use mathlib.Core.List.{[], _∷_, append-nil}
 use native.Mathlib.Omega.{arith}
 use borrow.Author.Needs.{needs}
 use Rattle.sheet.specs.Bytes.{TAB}
-use Rattle.sheet.specs.Output.{decimal}
-use Rattle.sheet.proofs.Laid.{laid-then}
-use Rattle.sheet.proofs.Decimal.{decimal-most}
-use Rattle.sheet.proofs.output.put_number.Statement.{statement}
-use Rattle.sheet.proofs.output.put_number.Tie as tie
+use Rattle.slip.specs.Output.{decimal}
+use Rattle.slip.proofs.Laid.{laid-then}
+use Rattle.slip.proofs.Decimal.{decimal-most}
+use Rattle.slip.proofs.put_number.Statement.{statement}
+use Rattle.slip.proofs.put_number.Tie as tie
 
 put-byte-requires : tie.Need-put-byte-requires
 put-byte-requires c κs = search needs

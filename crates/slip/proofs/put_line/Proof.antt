@@ -1,13 +1,13 @@
--- `sheet::output::put_line` meets its contract: the head, then the line feed. Assumes nothing.
+-- `slip::put_line` meets its contract: the head, then the line feed. Assumes nothing.
 use mathlib.Core.List.{[], _∷_}
 use native.Mathlib.Omega.{arith}
 use borrow.Author.Needs.{needs}
 use Rattle.sheet.specs.Bytes.{FEED}
-use Rattle.sheet.specs.Output.{headOf, outputLine}
-use Rattle.sheet.proofs.Laid.{laid-within, laid-then}
-use Rattle.sheet.proofs.Decimal.{head-room}
-use Rattle.sheet.proofs.output.put_line.Statement.{statement}
-use Rattle.sheet.proofs.output.put_line.Tie as tie
+use Rattle.slip.specs.Output.{headOf, outputLine}
+use Rattle.slip.proofs.Laid.{laid-within, laid-then}
+use Rattle.slip.proofs.Decimal.{head-room}
+use Rattle.slip.proofs.put_line.Statement.{statement}
+use Rattle.slip.proofs.put_line.Tie as tie
 
 put-head-requires : tie.Need-put-head-requires
 put-head-requires c κs = search needs

@@ -11,9 +11,9 @@ use lib.ListN.{length, getD, take, set, length-append}
 use lib.Seq.{take-suc, length-take-le}
 use borrow.Author.Tests.{lt-ltb, le-ltb, ltb-true}
 use Rattle.order.proofs.Lists.{by-bool}
 use Rattle.sheet.specs.Bytes.{Bytes}
-use Rattle.sheet.specs.Output.{decimalIn, decimal, tabbed, headOf, outputLine, laidAt}
-use Rattle.sheet.proofs.Laid.{laid-last}
+use Rattle.slip.specs.Output.{decimalIn, decimal, tabbed, headOf, outputLine, laidAt}
+use Rattle.slip.proofs.Laid.{laid-last}
 
 -- the digits in so many places and one more
 abbrev placesOf : ℕ → ℕ → Bool → Bytes

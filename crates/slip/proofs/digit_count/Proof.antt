@@ -1,13 +1,13 @@
--- `sheet::output::digit_count` meets its contract. The loop's invariant: the digits counted and those of the rest make one more than the digits of `n`. Assumes nothing.
+-- `slip::digit_count` meets its contract. The loop's invariant: the digits counted and those of the rest make one more than the digits of `n`. Assumes nothing.
 use Prim.Native.Nat.{_+_, _≤_}
 use mathlib.Core.Path.{_≡_}
 use native.Mathlib.Omega.{arith}
 use borrow.Author.Needs.{needs}
 use lib.ListN.{length}
-use Rattle.sheet.specs.Output.{decimal}
-use Rattle.sheet.proofs.Decimal.{count-more, count-small, decimal-most}
-use Rattle.sheet.proofs.output.digit_count.Statement.{statement}
-use Rattle.sheet.proofs.output.digit_count.Tie as tie
+use Rattle.slip.specs.Output.{decimal}
+use Rattle.slip.proofs.Decimal.{count-more, count-small, decimal-most}
+use Rattle.slip.proofs.digit_count.Statement.{statement}
+use Rattle.slip.proofs.digit_count.Tie as tie
 
 abbrev Inv-loop : tie.InvT-loop
 Inv-loop n count₀ rest₀ count rest = (count + length (decimal rest) ≡ 1 + length (decimal n)) × (rest ≤ n)

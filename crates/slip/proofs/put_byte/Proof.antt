@@ -1,9 +1,9 @@
--- `sheet::output::put_byte` meets its contract: one store is a run of one byte. Assumes nothing.
+-- `slip::put_byte` meets its contract: one store is a run of one byte. Assumes nothing.
 use mathlib.Core.Path.{refl}
 use borrow.Author.Needs.{needs}
-use Rattle.sheet.proofs.Laid.{laid-one}
-use Rattle.sheet.proofs.output.put_byte.Statement.{statement}
-use Rattle.sheet.proofs.output.put_byte.Tie as tie
+use Rattle.slip.proofs.Laid.{laid-one}
+use Rattle.slip.proofs.put_byte.Statement.{statement}
+use Rattle.slip.proofs.put_byte.Tie as tie
 
 slice-write-out : tie.Need-slice-write-out
 slice-write-out c = search needs

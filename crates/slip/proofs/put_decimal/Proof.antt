@@ -1,14 +1,14 @@
--- `sheet::output::put_decimal` meets its contract. The loop's invariant: the digits of the rest, laid in front of those that stand, give the whole number. Assumes nothing.
+-- `slip::put_decimal` meets its contract. The loop's invariant: the digits of the rest, laid in front of those that stand, give the whole number. Assumes nothing.
 use Prim.Native.Nat.{ℕ, suc, _+_, _-_, _≤_}
 use mathlib.Core.Path.{_≡_, refl, sym, ap, _∙_}
 use native.Mathlib.Omega.{arith}
 use borrow.Author.Needs.{needs}
 use lib.ListN.{length, length-set}
-use Rattle.sheet.specs.Output.{decimal, laidAt}
-use Rattle.sheet.proofs.Laid.{laid-none}
-use Rattle.sheet.proofs.Decimal.{digitsIn, digits-laid, decimal-digits, decimal-most}
-use Rattle.sheet.proofs.output.put_decimal.Statement.{statement}
-use Rattle.sheet.proofs.output.put_decimal.Tie as tie
+use Rattle.slip.specs.Output.{decimal, laidAt}
+use Rattle.slip.proofs.Laid.{laid-none}
+use Rattle.slip.proofs.Decimal.{digitsIn, digits-laid, decimal-digits, decimal-most}
+use Rattle.slip.proofs.put_decimal.Statement.{statement}
+use Rattle.slip.proofs.put_decimal.Tie as tie
 
 abbrev Inv-loop : tie.InvT-loop
 Inv-loop out₀ at n count left₀ rest₀ out left rest =

@@ -1,15 +1,15 @@
--- `sheet::output::put_numbers` meets its contract. The loop's invariant: the numbers passed stand in the buffer. Assumes nothing.
+-- `slip::put_numbers` meets its contract. The loop's invariant: the numbers passed stand in the buffer. Assumes nothing.
 use Prim.Native.Nat.{_-_, _≤_}
 use mathlib.Core.Path.{_≡_, refl, sym}
 use mathlib.Core.List.{[], _∷_, map}
 use native.Mathlib.Omega.{arith}
 use borrow.Author.Needs.{needs}
 use lib.ListN.{length, take, getD}
-use Rattle.sheet.specs.Output.{decimal, tabbed, Laid}
-use Rattle.sheet.proofs.Laid.{laid-none, laid-then}
-use Rattle.sheet.proofs.Decimal.{tabbed-more, tabbed-room, number-room}
-use Rattle.sheet.proofs.output.put_numbers.Statement.{statement}
-use Rattle.sheet.proofs.output.put_numbers.Tie as tie
+use Rattle.slip.specs.Output.{decimal, tabbed, Laid}
+use Rattle.slip.proofs.Laid.{laid-none, laid-then}
+use Rattle.slip.proofs.Decimal.{tabbed-more, tabbed-room, number-room}
+use Rattle.slip.proofs.put_numbers.Statement.{statement}
+use Rattle.slip.proofs.put_numbers.Tie as tie
 
 abbrev Inv-loop : tie.InvT-loop
 Inv-loop out₀ at numbers n next₀ i₀ out next i =

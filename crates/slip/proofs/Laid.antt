@@ -7,8 +7,8 @@ use native.Mathlib.Nat.{add-zero}
 use native.Mathlib.Numerals.{add-one}
 use lib.ListN.{length, take, drop, set, length-append, length-take, length-drop, take-append-drop}
 use lib.Seq.{take-at, drop-at, drop-drop, set-split, take-set-le, length-take-le}
 use Rattle.sheet.specs.Bytes.{Bytes}
-use Rattle.sheet.specs.Output.{laidAt, Laid}
+use Rattle.slip.specs.Output.{laidAt, Laid}
 
 module _ (out : Bytes) (at : ℕ) (bs : Bytes) (room : at + length bs ≤ length out) where
   pub laid-length : length (laidAt out at bs) ≡ length out

@@ -1,13 +1,13 @@
--- `sheet::output::put_head` meets its contract: four runs, one behind the other. Assumes nothing.
+-- `slip::put_head` meets its contract: four runs, one behind the other. Assumes nothing.
 use mathlib.Core.List.{[], _∷_}
 use native.Mathlib.Omega.{arith}
 use borrow.Author.Needs.{needs}
 use Rattle.sheet.specs.Bytes.{TAB}
-use Rattle.sheet.specs.Output.{decimal, tabbed, headOf}
-use Rattle.sheet.proofs.Laid.{laid-within, laid-then}
-use Rattle.sheet.proofs.Decimal.{decimal-most, number-room}
-use Rattle.sheet.proofs.output.put_head.Statement.{statement}
-use Rattle.sheet.proofs.output.put_head.Tie as tie
+use Rattle.slip.specs.Output.{decimal, tabbed, headOf}
+use Rattle.slip.proofs.Laid.{laid-within, laid-then}
+use Rattle.slip.proofs.Decimal.{decimal-most, number-room}
+use Rattle.slip.proofs.put_head.Statement.{statement}
+use Rattle.slip.proofs.put_head.Tie as tie
 
 put-decimal-requires : tie.Need-put-decimal-requires
 put-decimal-requires c κs = search needs
