@@ -1,4 +1,4 @@
-// The calls for C and Rust programs, as a static library: numbers and slices only, answers by document 01's numbers.
+// The calls for C and Rust programs, as a static library: numbers and lent rows, answers by document 01's numbers. The declarations for both stand in bindings/.
 // It promises what desk promises. It stands on desk. None of them has a `requires`.
 ghost use mathlib.Core.Path.{_≡_};
 ghost use Rattle.table.specs.Given.{numberGiven};

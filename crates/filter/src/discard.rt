@@ -5,13 +5,14 @@ ghost use lib.Dec.{leb};
 ghost use lib.ListN.{length, getD};
 ghost use Rattle.grid.specs.Place.{PlaceOnGrid, RectOnGrid, dist²};
 ghost use Rattle.grid.specs.Nearer.{nearerTo, cornersNearer};
-ghost use Rattle.order.specs.Lists.{one as oneOf, count};
+ghost use Rattle.order.specs.Lists.{count};
 ghost use Rattle.order.specs.Order.{upFrom};
 ghost use Rattle.filter.specs.Rows.{placeIn};
 use axis::border;
 use grid::place::Place;
 use grid::place::is_nearer;
 use grid::rect::Rect;
+use order::one;
 
 // The place of candidate i.
 pub fn place_at(xs: &[i32], ys: &[i32], i: usize) -> Place
@@ -22,13 +23,6 @@ pub fn place_at(xs: &[i32], ys: &[i32], i: usize) -> Place
         x: border::steps_at(xs, i),
         y: border::steps_at(ys, i),
     }
-}
-
-// A test as a number: counted so, no branch has to guess which candidates are nearer.
-pub fn one(test: bool) -> usize
-    ensures { λ r. ⌜ r ≡ oneOf test ⌝ }
-{
-    if test { 1 } else { 0 }
 }
 
 // Whether at least k of the first m candidates are nearer to p than q is. It counts them all: to stop at k costs a branch in each turn.

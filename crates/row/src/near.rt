@@ -8,9 +8,9 @@ ghost use Rattle.row.specs.Tested.{placeOf, entryOf, nearerAs, nearerAmo
 use crate::record::Candidate;
 use crate::record::record_at;
 use axis::border;
-use filter::discard::one;
 use grid::place::Place;
 use grid::place::is_nearer;
+use order::one;
 
 pub fn place_of(c: Candidate) -> Place
     ensures { λ r. ⌜ r ≡ placeOf c ⌝ }
