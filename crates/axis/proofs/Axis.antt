@@ -1,6 +1,6 @@
 -- The laws of one axis: distances and their squares, spans that grow, what lies in a span, and the gap to it. Assumes nothing.
-use mathlib.Core.Path.{_≡_, refl, ap, _∙_, subst}
-use mathlib.Core.Bool.{true, false}
+use mathlib.Core.Path.{_≡_, refl, sym, ap, _∙_, subst}
+use mathlib.Core.Bool.{true, false, cond}
 use mathlib.Core.Logic.{_⊎_, inl, inr, ⊎-elim}
 use Prim.Native.Nat.{ℕ, _+_, _-_, _*_, _≤_, _<_}
 use native.Mathlib.Decide.{decLe, decLt}
@@ -182,7 +182,7 @@ lead s c q = go (decLt (gains c q (s .low) + loses c q (s .high)) (gains c q (s 
         let l = at-end c q (s .low) in
         let h = at-end c q (s .high) in
         let t : ltZ (product c q (s .low)) (product c q (s .high)) ≡ true = lesser-end c q (s .low) (s .high) ∙ lt-ltb _ _ u in
-        rw t
+        subst (λ (z : ℤ). Lead s c q z) (sym (ap (λ b. cond b (product c q (s .low)) (product c q (s .high))) t))
         (record {
           more = gains c q (s .low);
           less = loses c q (s .low);
@@ -196,7 +196,7 @@ lead s c q = go (decLt (gains c q (s .low) + loses c q (s .high)) (gains c q (s 
         let h = at-end c q (s .high) in
         let v : gains c q (s .high) + loses c q (s .low) ≤ gains c q (s .low) + loses c q (s .high) = omega arith in
         let t : ltZ (product c q (s .low)) (product c q (s .high)) ≡ false = lesser-end c q (s .low) (s .high) ∙ le-ltb _ _ v in
-        rw t
+        subst (λ (z : ℤ). Lead s c q z) (sym (ap (λ b. cond b (product c q (s .low)) (product c q (s .high))) t))
         (record {
           more = gains c q (s .high);
           less = loses c q (s .high);
