@@ -177,7 +177,7 @@ fn queries(seeds: u64) {
                 let f = query::walk(&t, q, k as usize);
                 assert_eq!(f.answers, query::scan(&all, q, k as usize));
                 for (record, c) in want.candidates.iter_mut().zip(&f.candidates) {
-                    *record = Candidate { number: c.0, x: c.1 as i32, y: c.2 as i32, square: c.3 as u64 };
+                    *record = Candidate { number: c.0 as u64, x: c.1 as i32, y: c.2 as i32, square: c.3 as u64 };
                 }
                 if places < f.answers.len() {
                     want.tell(f.answers.len(), 0, 0);

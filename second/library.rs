@@ -26,7 +26,7 @@ impl Lists {
     /// So many candidates and answers, and one count more than there are, each word with a mark that no query writes.
     pub fn marked(candidates: usize, answers: usize) -> Lists {
         Lists {
-            candidates: vec![Candidate { number: -77, x: -77, y: -77, square: 77_777_777_777_777 }; candidates],
+            candidates: vec![Candidate { number: 77_777_777_777, x: -77, y: -77, square: 77_777_777_777_777 }; candidates],
             answers: vec![77_777; answers],
             counts: [77_777; 4],
         }

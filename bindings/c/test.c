@@ -7,13 +7,16 @@
 _Static_assert(ULLAGRETH_WORDS == 2 + ULLAGRETH_SLOTS * ULLAGRETH_SLOT_WORDS, "the slots fill the table");
 _Static_assert(ULLAGRETH_SLOT_WORDS == 2 + 5 * ULLAGRETH_MOST_ENTRIES, "the entries fill a slot");
 _Static_assert(sizeof(struct ullagreth_candidate) == 24, "the size of a record");
+_Static_assert(offsetof(struct ullagreth_candidate, number) == 0, "the place of the number");
+_Static_assert(offsetof(struct ullagreth_candidate, x) == 8, "the place of x");
+_Static_assert(offsetof(struct ullagreth_candidate, y) == 12, "the place of y");
 _Static_assert(offsetof(struct ullagreth_candidate, square) == 16, "the place of the square");
 
 enum { WORDS = ULLAGRETH_WORDS, MOST = ULLAGRETH_MOST_POINTS, REACH = ULLAGRETH_REACH };
 
 /* Marks that no call writes. */
 enum { MARK = 77777 };
-static const struct ullagreth_candidate MARKED = {-MARK, -MARK, -MARK, 77777777777777};
+static const struct ullagreth_candidate MARKED = {MARK, -MARK, -MARK, 77777777777777};
 
 static int checks, failures;
 static const char *trying;
@@ -89,7 +92,7 @@ struct query {
 static struct ullagreth_candidate record_of(struct point p, int32_t x, int32_t y)
 {
     int64_t across = (int64_t)p.x - x, up = (int64_t)p.y - y;
-    struct ullagreth_candidate c = {p.number, p.x, p.y, (uint64_t)(across * across + up * up)};
+    struct ullagreth_candidate c = {(uint64_t)p.number, p.x, p.y, (uint64_t)(across * across + up * up)};
     return c;
 }
 

@@ -44,9 +44,9 @@ enum {
     ULLAGRETH_SHEET_TOO_LONG = 12   /* sheet longer than 65,536 bytes: of the job sheet only */
 };
 
-/* A record of the candidate list. */
+/* A record of the candidate list: 24 bytes without a hole. */
 struct ullagreth_candidate {
-    int32_t number;
+    uint64_t number;
     int32_t x;
     int32_t y;
     uint64_t square; /* the squared distance to the query's place */

@@ -4,14 +4,19 @@
 mod ullagreth;
 
 use std::fmt::Debug;
+use std::mem::{offset_of, size_of};
 use ullagreth::{lent, Candidate, Counts, Refusal, Table, MOST_POINTS, SLOTS, SLOT_WORDS, WORDS};
+
+const _: () = assert!(size_of::<Candidate>() == 24 && offset_of!(Candidate, number) == 0, "the size of a record, and the place of the number");
+const _: () = assert!(offset_of!(Candidate, x) == 8 && offset_of!(Candidate, y) == 12, "the places of x and y");
+const _: () = assert!(offset_of!(Candidate, square) == 16, "the place of the square");
 
 const EDGE: i32 = 1_000_000;
 /// Off the grid, on either side.
 const OFF: [i32; 4] = [EDGE + 1, -EDGE - 1, i32::MAX, i32::MIN];
 
 // What no call writes.
-const UNTOUCHED: Candidate = Candidate { number: -5, x: -6, y: -7, square: u64::MAX };
+const UNTOUCHED: Candidate = Candidate { number: 55_555, x: -6, y: -7, square: u64::MAX };
 const UNSAID: u32 = 123_456;
 
 #[derive(Default)]
@@ -61,7 +66,7 @@ impl Wanted {
         for (record, &number) in list.iter_mut().zip(self.candidates) {
             let &(_, x, y) = points.iter().find(|p| p.0 == number).expect("a point of the case");
             let (dx, dy) = (i64::from(x - self.at.0), i64::from(y - self.at.1));
-            *record = Candidate { number, x, y, square: (dx * dx + dy * dy) as u64 };
+            *record = Candidate { number: number as u64, x, y, square: (dx * dx + dy * dy) as u64 };
         }
         list
     }

@@ -11,11 +11,11 @@ pub const SLOTS: usize = 256;
 pub const SLOT_WORDS: usize = 42;
 pub const MOST_POINTS: usize = 500;
 
-/// A record of the candidate list, laid out as the library has it.
+/// A record of the candidate list, laid out as the library has it: 24 bytes without a hole.
 #[repr(C)]
 #[derive(Clone, Copy, PartialEq, Eq, Debug, Default)]
 pub struct Candidate {
-    pub number: i32,
+    pub number: u64,
     pub x: i32,
     pub y: i32,
     /// The squared distance to the query's place.

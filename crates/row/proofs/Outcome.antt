@@ -82,7 +82,7 @@ module _ {ws : Words} (t : Checked ws) where
       candidate-at i h =
           let cs = found ws q k .candidates in
           ap (λ (r : Rows). candidateIn r i) (n .rows)
-          ∙ candidate-ext (row-at (λ (e : Entry). pos (e .reference)) cs (before .numbers) blankEntry (pos 0) i h)
+          ∙ candidate-ext (ap natOf (row-at (λ (e : Entry). pos (e .reference)) cs (before .numbers) blankEntry (pos 0) i h))
           (row-at (λ (e : Entry). wordOf (e .rect .x .low)) cs (before .xs) blankEntry (pos 0) i h)
           (row-at (λ (e : Entry). wordOf (e .rect .y .low)) cs (before .ys) blankEntry (pos 0) i h)
           (row-at (λ (e : Entry). dist² (placeOf q) (spotIn e)) cs (before .squares) blankEntry 0 i h)
@@ -145,8 +145,8 @@ module _ {ws : Words} (t : Checked ws) where
     passing-right =
         let cs = found ws q k .candidates in
         let A = answersTo (stations ws) q k in
-        ap (λ l. rising (map (λ c. natOf (c .number)) l)) (filter-map (passesAs ws k) (candidateOf q) cs)
-        ∙ ap rising (map-map (λ c. natOf (c .number)) (candidateOf q) (filter (λ e. passesAs ws k (candidateOf q e)) cs))
+        ap (λ l. rising (map (λ c. c .number) l)) (filter-map (passesAs ws k) (candidateOf q) cs)
+        ∙ ap rising (map-map (λ c. c .number) (candidateOf q) (filter (λ e. passesAs ws k (candidateOf q e)) cs))
         ∙ ap (λ l. rising (map (λ e. e .reference) l))
         (filter-same (λ e. passesAs ws k (candidateOf q e)) (λ e. A (stationOfEntry e)) cs
         (all-then (λ e. isPoint e ≡ true) (λ e. passesAs ws k (candidateOf q e) ≡ A (stationOfEntry e)) pass-as cs points))

@@ -7,7 +7,6 @@ use mathlib.Core.Bool.{Bool, true, false, cond}
 use mathlib.Core.List.{List, [], _∷_, _++_, map, map-append, append-nil}
 use lib.ListN.{length, set, getD, take, length-append, length-set}
 use lib.Seq.{take-suc}
-use Rattle.axis.specs.Word.{natOf}
 use Rattle.order.specs.Lists.{filter}
 use Rattle.table.specs.Words.{Words}
 use Rattle.filter.specs.Query.{laidOver}
@@ -23,7 +22,7 @@ module _ (ws : Words) (k : ℕ) where
       → numbersPassing ws k (take (i + 1) cs) ≡ numbersPassing ws k (take i cs) ++ numbersPassing ws k (getD cs i none ∷ [])
   unfolding numbersPassing
   passing-more cs i h =
-      let number : Candidate → ℕ = λ c. natOf (c .number) in
+      let number : Candidate → ℕ = λ c. c .number in
       let P = passesAs ws k in
       let c = getD cs i none in
       ap (λ (j : ℕ). map number (filter P (take j cs))) (add-one i)
@@ -31,7 +30,7 @@ module _ (ws : Words) (k : ℕ) where
       ∙ ap (map number) (filter-append P (take i cs) (c ∷ []))
       ∙ map-append number (filter P (take i cs)) (filter P (c ∷ []))
 
-  passing-one : (c : Candidate) (b : Bool) → passesAs ws k c ≡ b → numbersPassing ws k (c ∷ []) ≡ cond b (natOf (c .number) ∷ []) []
+  passing-one : (c : Candidate) (b : Bool) → passesAs ws k c ≡ b → numbersPassing ws k (c ∷ []) ≡ cond b (c .number ∷ []) []
   unfolding numbersPassing
   passing-one c true e = rw e
   passing-one c false e = rw e
@@ -57,10 +56,10 @@ module _ (ws : Words) (k : ℕ) (cs : List Candidate) (old : List ℕ) where
   }
 
   pub kept-next : (i n : ℕ) (ks : List ℕ) → Kept i n ks → i < length cs → i < length old → (b : Bool) → passesAs ws k (getD cs i none) ≡ b
-      → Kept (i + 1) (cond b (n + 1) n) (cond b (set ks n (natOf (getD cs i none .number))) ks)
+      → Kept (i + 1) (cond b (n + 1) n) (cond b (set ks n (getD cs i none .number)) ks)
   kept-next i n ks h l o true e =
       let now = numbersPassing ws k (take i cs) in
-      let v = natOf (getD cs i none .number) in
+      let v = getD cs i none .number in
       let more = passing-more ws k cs i l ∙ ap (λ (r : List ℕ). now ++ r) (passing-one ws k (getD cs i none) true e) in
       record {
         count = omega (arith, ap length more, length-append now (v ∷ []), h .count);

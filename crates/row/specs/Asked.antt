@@ -4,7 +4,6 @@ use mathlib.Core.Path.{_≡_}
 use mathlib.Core.Bool.{true, cond}
 use mathlib.Core.List.{List, map}
 use lib.Dec.{leb}
-use lib.IntN.{pos}
 use lib.ListN.{length}
 use Rattle.axis.specs.Word.{onGrid, wordOf}
 use Rattle.grid.specs.Site.{Site, placeOf}
@@ -21,7 +20,7 @@ use Rattle.row.specs.Tested.{Checked}
 -- the record of a candidate: point number, x, y, squared distance to q
 abbrev pub candidateOf : Site → Entry → Candidate
 candidateOf q e = record {
-  number = pos (e .reference);
+  number = e .reference;
   x = wordOf (e .rect .x .low);
   y = wordOf (e .rect .y .low);
   square = dist² (placeOf q) (spotIn e);

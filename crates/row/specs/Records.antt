@@ -12,11 +12,11 @@ use Rattle.row.specs.declared.record.Candidate.{Candidate}
 
 -- what stands past the end
 abbrev pub none : Candidate
-none = record { number = pos 0; x = pos 0; y = pos 0; square = 0 }
+none = record { number = 0; x = pos 0; y = pos 0; square = 0 }
 
 -- what a record says
 abbrev pub recordOfCandidate : Candidate → Record
-recordOfCandidate c = record { number = natOf (c .number); x = c .x; y = c .y; square = c .square }
+recordOfCandidate c = record { number = c .number; x = c .x; y = c .y; square = c .square }
 
 -- what the list says
 abbrev pub recordsOf : List Candidate → List Record
@@ -24,7 +24,7 @@ recordsOf cs = map recordOfCandidate cs
 
 -- candidate i of the rows
 abbrev pub candidateIn : Rows → ℕ → Candidate
-candidateIn r i = record { number = word (r .numbers) i; x = word (r .xs) i; y = word (r .ys) i; square = getD (r .squares) i 0 }
+candidateIn r i = record { number = natOf (word (r .numbers) i); x = word (r .xs) i; y = word (r .ys) i; square = getD (r .squares) i 0 }
 
 -- the first m candidates of the rows, in order
 unfoldable pub candidatesIn : Rows → ℕ → List Candidate

@@ -4,7 +4,7 @@ use mathlib.Core.Path.{_≡_}
 use mathlib.Core.Bool.{Bool, true, false}
 use mathlib.Core.List.{List, map}
 use lib.ListN.{length, getD, take}
-use Rattle.axis.specs.Word.{IsWord, stepsOf, natOf}
+use Rattle.axis.specs.Word.{IsWord, stepsOf}
 use Rattle.grid.specs.declared.place.Place.{Place}
 use Rattle.grid.specs.Nearer.{nearer}
 use Rattle.grid.specs.Place.{spotOf, dist²}
@@ -24,11 +24,11 @@ placeOf c = record { x = stepsOf (c .x); y = stepsOf (c .y) }
 
 -- the candidate, as an entry of a leaf
 abbrev pub entryOf : Candidate → Entry
-entryOf c = record { reference = natOf (c .number); rect = spotOf (placeOf c) }
+entryOf c = record { reference = c .number; rect = spotOf (placeOf c) }
 
 -- the candidate passes the final test
 unfoldable pub passesAs : Words → ℕ → Candidate → Bool
-passesAs ws k c = passes ws (natOf (c .number)) (placeOf c) (c .square) k
+passesAs ws k c = passes ws (c .number) (placeOf c) (c .square) k
 
 -- d is nearer to the candidate c than q is
 unfoldable pub nearerAs : Candidate → Candidate → Bool
@@ -40,7 +40,7 @@ nearerAmong cs c = count (nearerAs c) cs
 
 -- the numbers of those that pass, in the order found
 unfoldable pub numbersPassing : Words → ℕ → List Candidate → List ℕ
-numbersPassing ws k cs = map (λ c. natOf (c .number)) (filter (passesAs ws k) cs)
+numbersPassing ws k cs = map (λ c. c .number) (filter (passesAs ws k) cs)
 
 -- the table is well formed
 pub record Checked (ws : Words) : Type 0 where

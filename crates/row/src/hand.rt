@@ -7,13 +7,14 @@ ghost use Rattle.filter.specs.Rows.{rows, Room};
 ghost use Rattle.row.specs.Records.{candidateIn, candidatesIn};
 use crate::record::Candidate;
 use crate::record::append;
+use axis::border;
 
 // Candidate i of the rows, as a record.
 pub fn candidate_at(numbers: &[i32], xs: &[i32], ys: &[i32], squares: &[u64], i: usize) -> Candidate
     requires { ⌜ (i < length (now numbers)) × (i < length (now xs)) × (i < length (now ys)) × (i < length (now squares)) ⌝ }
     ensures { λ r. ⌜ r ≡ candidateIn (rows (now (numbers .entry)) (now (xs .entry)) (now (ys .entry)) (now (squares .entry))) i ⌝ }
 {
-    let number = numbers[i];
+    let number = border::natural_at(numbers, i) as u64;
     let x = xs[i];
     let y = ys[i];
     let square = squares[i];

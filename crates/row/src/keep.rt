@@ -3,7 +3,6 @@ ghost use mathlib.Core.Path.{_≡_};
 ghost use mathlib.Core.Bool.{true, false, cond};
 ghost use Prim.Native.Nat.{_+_, _<_};
 ghost use lib.ListN.{length, set, take};
-ghost use Rattle.axis.specs.Word.{natOf};
 ghost use Rattle.table.specs.Stations.{isPoint};
 ghost use Rattle.filter.specs.Query.{laidOver};
 ghost use Rattle.row.specs.Tested.{entryOf, passesAs, numbersPassing, Checked, Keepable};
@@ -11,7 +10,6 @@ use crate::near::nearer_in;
 use crate::near::place_of;
 use crate::record::Candidate;
 use crate::record::record_at;
-use axis::border;
 use filter::test::passes;
 
 // If the candidate passes, its number goes to place n of `kept`; gives back the next free place.
@@ -21,13 +19,13 @@ fn noted(table: &[i32], c: Candidate, near: usize, k: usize, kept: &mut [u32], n
     ensures { λ r.
         ⌜
         (r ≡ cond (passesAs (now (table .entry)) k c) (n + 1) n)
-        × (now (kept .exit) ≡ cond (passesAs (now (table .entry)) k c) (set (now (kept .entry)) n (natOf (c .number))) (now (kept .entry)))
+        × (now (kept .exit) ≡ cond (passesAs (now (table .entry)) k c) (set (now (kept .entry)) n (c .number)) (now (kept .entry)))
         ⌝ }
 {
     if k < near {
         return n;
     }
-    let number = border::natural(c.number);
+    let number = c.number as usize;
     let p = place_of(c);
     if !passes(table, number, p, c.square, k) {
         return n;

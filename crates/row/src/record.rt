@@ -4,10 +4,10 @@ ghost use Prim.Native.Nat.{_<_};
 ghost use lib.ListN.{length, set, getD};
 ghost use Rattle.row.specs.Records.{none};
 
-// Laid out for C and Rust programs too.
+// Laid out for C and Rust programs too, with no hole between the fields: a blank list is then filled as plain bytes.
 #[repr(C)]
 pub struct Candidate {
-    pub number: i32,
+    pub number: u64,
     pub x: i32,
     pub y: i32,
     // The squared distance to the query's place.

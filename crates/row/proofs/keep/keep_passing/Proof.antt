@@ -48,7 +48,6 @@ use denote.Triple.Clauses.{ensured, lasts}
 use denote.Triple.Table.{entered, cited}
 use denote.Triple.Walked.{says, needs, Stays, stay-slice, stay-none-slice, stay-none, walkOf, goes-slice, goes-none-slice, goes-none, Walks, ends-at, walked, walk-meets}
 use denote.Exit.{yes}
-use Rattle.axis.specs.Word.{natOf}
 use Rattle.table.specs.Words.{Words}
 use Rattle.table.specs.Stations.{isPoint}
 use Rattle.filter.specs.Query.{laidOver}
@@ -207,7 +206,7 @@ module _ {M : Type 1} (𝓤 : URA M) (H : Heap 𝓤) (A : Atoms 𝓤) (W : Given
 
   -- what it ensures
   abbrev NotedAs : Upto → Candidate → ℕ → List ℕ → Type 0
-  NotedAs i c r l = (r ≡ cond (passesAs ws k c) (i .2 + 1) (i .2)) × (l ≡ cond (passesAs ws k c) (set (i .3) (i .2) (natOf (c .number))) (i .3))
+  NotedAs i c r l = (r ≡ cond (passesAs ws k c) (i .2 + 1) (i .2)) × (l ≡ cond (passesAs ws k c) (set (i .3) (i .2) (c .number)) (i .3))
 
   -- where more than k are nearer, c does not pass
   crowded : (i : ℕ) (c : Candidate) (near : ℕ) → i < m → c ≡ getD cs i none → near ≡ nearerAmong (take m cs) c → k < near → passesAs ws k c ≡ false

@@ -1,12 +1,9 @@
 -- `row::keep::noted` meets its contract: where too many are nearer the caller knows that the candidate does not pass; else the test is that of the record. Assumes nothing.
 use Prim.Native.Nat.{ℕ}
 use native.Mathlib.Omega.{arith}
-use mathlib.Core.Path.{_≡_, refl, sym, ap, _∙_}
+use mathlib.Core.Path.{_≡_, refl, sym, _∙_}
 use mathlib.Core.Bool.{Bool}
-use lib.ListN.{set}
 use borrow.Author.Tests.{not-true, not-false}
-use Rattle.axis.specs.Word.{natOf}
-use Rattle.axis.proofs.Machine.{natural-passed}
 use Rattle.grid.specs.declared.place.Place.{Place}
 use Rattle.table.specs.Words.{Words}
 use Rattle.audit.proofs.Reading.{point}
@@ -17,45 +14,37 @@ use borrow.Author.Needs.{needs}
 use Rattle.row.proofs.keep.noted.Statement.{statement}
 use Rattle.row.proofs.keep.noted.Tie as tie
 
--- what the test says of the record's number and place, it says of the record
-tells : (ws : Words) (k : ℕ) (c : Candidate) {number : ℕ} {p : Place} {r b : Bool} → number ≡ natOf (c .number) → p ≡ placeOf c
-    → r ≡ passes ws number p (c .square) k → r ≡ b → passesAs ws k c ≡ b
+-- what the test says of the record's place, it says of the record
+tells : (ws : Words) (k : ℕ) (c : Candidate) {p : Place} {r b : Bool} → p ≡ placeOf c → r ≡ passes ws (c .number) p (c .square) k → r ≡ b → passesAs ws k c ≡ b
 unfolding passesAs
-tells ws k c n p e f = rw (← n, ← p) (sym e ∙ f)
+tells ws k c p e f = rw (← p) (sym e ∙ f)
 
 returns : tie.Need-returns
 returns c =
     let s = c .before .before in
     rw (s .pre .3 (c .if1 .taken)) (refl, refl)
 
-natural-requires : tie.Need-natural-requires
-natural-requires c κs = search needs
-
 place-of-requires : tie.Need-place-of-requires
 place-of-requires c κs = search needs
 
 passes-requires : tie.Need-passes-requires
 passes-requires c κs =
-    let s = c .before .before .before .before .before in
+    let s = c .before .before .before in
     let t = s .pre .0 in
     let p = point (entryOf (s .args .c)) (s .pre .1) in
     (t .long, t .words, t .rules, rw (c .place-of .ensures) (record { x = p .x .grid; y = p .y .grid }))
 
 returns-2 : tie.Need-returns-2
 returns-2 c =
-    let s = c .before .before .before .before .before .before .before in
-    let g = c .before .before .before .before .struct-told .given in
-    let n = natural-passed (s .args .c .number) (record { sfits = g .0 .1 }) (c .before .before .before .natural .ensures) in
-    let e = tells (s .args .table .now) (s .args .k) (s .args .c) n (c .before .before .place-of .ensures) (c .before .passes .ensures) (not-true _ (c .if2 .taken)) in
+    let s = c .before .before .before .before .before in
+    let e = tells (s .args .table .now) (s .args .k) (s .args .c) (c .before .before .place-of .ensures) (c .before .passes .ensures) (not-true _ (c .if2 .taken)) in
     rw e (refl, refl)
 
 cast-kept : tie.Need-cast-kept
 cast-kept c =
-    let s = c .before .before .before .before .before .before .before in
-    let g = c .before .before .before .before .struct-told .given in
-    let n = natural-passed (s .args .c .number) (record { sfits = g .0 .1 }) (c .before .before .before .natural .ensures) in
+    let s = c .before .before .before .before .before in
     let p = point (entryOf (s .args .c)) (s .pre .1) in
-    record { fits = omega (arith, n, p .most) }
+    record { fits = omega (arith, p .most) }
 
 mul-kept : tie.Need-mul-kept
 mul-kept c = search needs
@@ -71,18 +60,15 @@ same-length c = search needs
 
 returns-3 : tie.Need-returns-3
 returns-3 c =
-    let s = c .before .before .before .before .before .before .before in
-    let g = c .before .before .before .before .struct-told .given in
-    let n = natural-passed (s .args .c .number) (record { sfits = g .0 .1 }) (c .before .before .before .natural .ensures) in
-    let e = tells (s .args .table .now) (s .args .k) (s .args .c) n (c .before .before .place-of .ensures) (c .before .passes .ensures) (not-false _ (c .if2 .left)) in
-    rw e (refl, ap (set (s .args .kept .now) (s .args .n)) n)
+    let s = c .before .before .before .before .before in
+    let e = tells (s .args .table .now) (s .args .k) (s .args .c) (c .before .before .place-of .ensures) (c .before .passes .ensures) (not-false _ (c .if2 .left)) in
+    rw e (refl, refl)
 
 pub noted-spec : {M : Type 1} → statement M
 noted-spec =
     tie.close
     (tie.spec
     returns
-    natural-requires
     place-of-requires
     passes-requires
     returns-2
