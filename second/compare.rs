@@ -259,16 +259,18 @@ fn bench_sites(r: &mut Random) {
     let w = t.words();
     let (xs, ys): (Vec<i32>, Vec<i32>) = (0..10_000).map(|_| r.place(0)).unzip();
     let sites: Vec<[i64; 2]> = xs.iter().zip(&ys).map(|(&x, &y)| [i64::from(x), i64::from(y)]).collect();
+    // Known only when it runs, as for the library: a scan that is compiled for k 5 alone would be a sixth faster.
+    let k = std::hint::black_box(5);
     // 500 sites at a time, turn about, each the best of ten: so a slower spell of the machine falls on none of the three.
     let (mut proved, mut scanned, mut walked) = (0.0, 0.0, 0.0);
     for ((xs, ys), sites) in xs.chunks(500).zip(ys.chunks(500)).zip(sites.chunks(500)) {
         let (mut counts, mut other) = (vec![0; sites.len()], vec![0; sites.len()]);
         let mut least = [f64::INFINITY; 3];
         for _ in 0..10 {
-            least[0] = least[0].min(seconds(|| assert_eq!(library::sites(&w, xs, ys, 5, &mut counts), 0)));
-            least[1] = least[1].min(seconds(|| other.iter_mut().zip(sites).for_each(|(n, &q)| *n = flat.query(q, 5).len() as u32)));
+            least[0] = least[0].min(seconds(|| assert_eq!(library::sites(&w, xs, ys, k as i32, &mut counts), 0)));
+            least[1] = least[1].min(seconds(|| other.iter_mut().zip(sites).for_each(|(n, &q)| *n = flat.query(q, k).len() as u32)));
             assert!(counts == other);
-            least[2] = least[2].min(seconds(|| other.iter_mut().zip(sites).for_each(|(n, &q)| *n = query::walk(&t, q, 5).answers.len() as u32)));
+            least[2] = least[2].min(seconds(|| other.iter_mut().zip(sites).for_each(|(n, &q)| *n = query::walk(&t, q, k).answers.len() as u32)));
             assert!(counts == other);
         }
         proved += least[0];
