@@ -1,11 +1,10 @@
 -- What a node by value holds at a place is what its array has there. Assumes nothing.
-use Prim.Native.Nat.{ℕ, _+_, _-_, _≤_, _<_}
+use Prim.Native.Nat.{ℕ, _-_, _≤_, _<_}
 use native.Mathlib.Omega.{arith}
-use native.Mathlib.Numerals.{add-one}
 use mathlib.Core.Path.{_≡_, refl, sym, ap, subst, _∙_}
-use mathlib.Core.List.{List, [], _∷_, map, map-append}
-use lib.ListN.{length, take, set, getD, replicate, length-map}
-use lib.Seq.{getD-take, take-suc, take-suc-set, take-at}
+use mathlib.Core.List.{List, [], _∷_, map}
+use lib.ListN.{length, take, getD, replicate, length-map}
+use lib.Seq.{getD-take, take-at}
 use Rattle.order.specs.Lists.{All}
 use Rattle.order.specs.Order.{order, rowOf, pick}
 use Rattle.order.proofs.Lists.{all-at}
@@ -27,25 +26,19 @@ pub held-all : (Q : Entry → Type 0) (n : Node) (i : ℕ) → length (n .entrie
 held-all Q n i full few h a =
     subst Q (held-at n i h) (all-at Q (held n) i blankEntry (omega (arith, held-length n full few)) a)
 
--- a loop that stores one more value of a map
-pub map-more : {A B : Type 0} (f : A → B) (xs : List A) (d : A) (ys : List B) (k : ℕ) (v : B) → take k ys ≡ map f (take k xs) → v ≡ f (getD xs k d)
-    → k < length xs → k < length ys → take (k + 1) (set ys k v) ≡ map f (take (k + 1) xs)
-map-more f xs d ys k v e ev hx hy =
-    rw (add-one, take-suc-set ys k v hy, take-suc xs k d hx, map-append f (take k xs) (getD xs k d ∷ [])) (cc)
-
 -- ---- the entries by a row of places
 
 pick-held : (n : Node) (is : List ℕ) → All (λ i. i < n .count) is → pick (n .entries) blankEntry is ≡ pick (held n) blankEntry is
 pick-held n [] a = refl
 pick-held n (i ∷ is) a = cc (held-at n i (a .0), pick-held n is (a .1))
 
-module _ (n : Node) (axis : Axis) (sums row : List ℕ) (full : length (n .entries) ≡ 10) (few : n .count ≤ 10)
-    (longer : axis ≡ longerAxis (coverOf (held n))) (keys : take (n .count) sums ≡ map (λ e. sumOn axis (e .rect)) (held n))
-    (made : row ≡ rowOf (take (n .count) sums)) where
+module _ (n : Node) (axis : Axis) (row : List ℕ) {sums : List ℕ} (full : length (n .entries) ≡ 10) (few : n .count ≤ 10)
+    (longer : axis ≡ longerAxis (coverOf (held n))) (keys : sums ≡ map (λ e. sumOn axis (e .rect)) (held n))
+    (made : row ≡ rowOf sums) where
   abbrev key : Entry → ℕ
   key e = sumOn (longerAxis (coverOf (held n))) (e .rect)
 
-  keys-are : take (n .count) sums ≡ map key (held n)
+  keys-are : sums ≡ map key (held n)
   keys-are = keys ∙ ap (λ a. map (λ e. sumOn a (e .rect)) (held n)) longer
 
   keys-many : length (map key (held n)) ≡ n .count

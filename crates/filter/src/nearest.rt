@@ -18,13 +18,13 @@ pub fn nearest(table: &[i32], slot: usize, q: Place) -> [usize; order::MOST]
     requires { ⌜ All (λ e. RectOnGrid (e .rect)) (entriesAt (now table) slot) ⌝ }
     ensures { λ r. ⌜ r ≡ rowOf (map (λ e. leastSquare (e .rect) q) (entriesAt (now (table .entry)) slot)) ⌝ }
 {
-    let mut keys = [0; order::MOST];
+    let mut marks = [order::NONE; order::MOST];
     let count = count_at(table, slot);
     let mut i = 0;
     while i < count {
         let e = entry_at(table, slot, i);
-        keys[i] = e.rect.least_square(q);
+        marks[i] = order::mark(e.rect.least_square(q), i);
         i += 1;
     }
-    order::in_order(keys, count)
+    order::in_order(&marks, count)
 }

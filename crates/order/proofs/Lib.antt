@@ -1,4 +1,5 @@
 pub mod Lists
+pub mod Marks
 pub mod Order
 pub mod Perm
 pub mod Ranks

@@ -1,28 +1,32 @@
--- `filter::nearest::nearest` meets its contract. The loop's invariant: the first `i` keys are those of the first `i` entries. The row is that of the keys. Assumes nothing.
+-- `filter::nearest::nearest` meets its contract. The loop's invariant: the squares of the first `i` entries are marked. The row is that of the marks. Assumes nothing.
 use Prim.Native.Nat.{ℕ, _≤_, _<_, _-_}
 use native.Mathlib.Omega.{arith}
-use mathlib.Core.Path.{_≡_, refl, sym, ap, _∙_}
-use mathlib.Core.List.{map, map-map}
-use lib.ListN.{length, take, getD, length-set}
+use mathlib.Core.Path.{_≡_, sym, ap, subst, _∙_}
+use mathlib.Core.List.{List, map}
+use lib.IntN.{ℤ}
+use lib.ListN.{length, length-map}
 use borrow.Author.Needs.{needs}
+use Rattle.grid.specs.declared.place.Place.{Place}
 use Rattle.grid.specs.Place.{RectOnGrid, leastSquare}
-use Rattle.order.specs.Order.{upFrom, rowOf}
-use Rattle.order.proofs.Lists.{all-at}
-use Rattle.order.proofs.Order.{pick-all}
+use Rattle.grid.proofs.Rects.{least-square-most}
+use Rattle.order.specs.Order.{keyAt, rowOf, markOf}
+use Rattle.order.proofs.Lists.{map-at, all-at}
+use Rattle.order.proofs.Marks.{Marked, marked-none, marked-next, marked-marks, marked-keys}
 use Rattle.table.specs.declared.node.Entry.{Entry}
 use Rattle.table.specs.Page.{blankEntry}
 use Rattle.table.specs.Slots.{entriesAt}
-use Rattle.table.proofs.Parts.{read-step}
 use Rattle.table.proofs.Slots.{page-few}
 use Rattle.filter.proofs.nearest.nearest.Statement.{statement}
 use Rattle.filter.proofs.nearest.nearest.Tie as tie
 
+abbrev squares : List ℤ → ℕ → Place → List ℕ
+squares table slot q = map (λ e. leastSquare (e .rect) q) (entriesAt table slot)
+
 abbrev Inv-loop : tie.InvT-loop
-Inv-loop table slot q keys₀ count i₀ keys i =
-    (i ≤ count) × (length keys ≡ 10) × (take i keys ≡ map (λ j. leastSquare (getD (entriesAt table slot) j blankEntry .rect) q) (upFrom 0 i))
+Inv-loop table slot q marks₀ count i₀ marks i = (i ≤ count) × Marked (squares table slot q) i marks
 
 abbrev μ-loop : tie.MeasureT-loop
-μ-loop table slot q keys₀ count i₀ keys i = count - i
+μ-loop table slot q marks₀ count i₀ marks i = count - i
 
 -- a slot has no more entries than the row has places
 few : (l : tie.At-loop Inv-loop μ-loop) → l .before .count-at .result ≤ 10
@@ -40,28 +44,39 @@ count-at-requires : tie.Need-count-at-requires Inv-loop μ-loop
 count-at-requires c κs = search needs
 
 loop-holds : tie.Need-loop-holds Inv-loop μ-loop
-loop-holds c = (omega arith, refl, refl)
+loop-holds c = let a = c .before .args in (omega arith, marked-none (squares (a .table .now) (a .slot) (a .q)))
 
 entry-at-requires : tie.Need-entry-at-requires Inv-loop μ-loop
 entry-at-requires c κs =
     let s = c .before .before .before in
     (s .pre .0 .0, s .pre .0 .1, in-node c)
 
-least-square-requires : tie.Need-least-square-requires Inv-loop μ-loop
-least-square-requires c κs =
+-- what the reading of the entry told
+read-grid : (c : tie.After-entry-at Inv-loop μ-loop) → RectOnGrid (c .entry-at .result .rect)
+read-grid c =
     let w = c .before in
     let s = w .before .before .before in
     let es = entriesAt (s .args .table .now) (s .args .slot) in
-    (rw (c .entry-at .ensures) (all-at (λ e. RectOnGrid (e .rect)) es (w .before .loop .i) blankEntry (in-node w) (s .pre .1)), s .pre .0 .2)
+    rw (c .entry-at .ensures) (all-at (λ e. RectOnGrid (e .rect)) es (w .before .loop .i) blankEntry (in-node w) (s .pre .1))
 
-mul-keys : tie.Need-mul-keys Inv-loop μ-loop
-mul-keys c =
-    let w = c .before .before in
+least-square-requires : tie.Need-least-square-requires Inv-loop μ-loop
+least-square-requires c κs = (read-grid c, c .before .before .before .before .pre .0 .2)
+
+mark-requires : tie.Need-mark-requires Inv-loop μ-loop
+mark-requires c κs =
+    let w = c .before .before in (
+      omega (arith, c .least-square .ensures, least-square-most (read-grid (c .before)) (w .before .before .before .pre .0 .2)),
+      omega (arith, w .loop-test .taken, few (w .before)),
+    )
+
+mul-marks : tie.Need-mul-marks Inv-loop μ-loop
+mul-marks c =
+    let w = c .before .before .before in
     omega (arith, w .loop-test .taken, few (w .before))
 
-array-write-keys : tie.Need-array-write-keys Inv-loop μ-loop
-array-write-keys c =
-    let w = c .before .before in
+array-write-marks : tie.Need-array-write-marks Inv-loop μ-loop
+array-write-marks c =
+    let w = c .before .before .before in
     omega (arith, w .loop-test .taken, few (w .before))
 
 add-i : tie.Need-add-i Inv-loop μ-loop
@@ -72,33 +87,41 @@ loop-less c = omega arith
 
 loop-again : tie.Need-loop-again Inv-loop μ-loop
 loop-again c =
-    let w = c .before .before in
+    let r = c .before in
+    let w = r .before .before in
     let l = w .before .loop in
     let a = w .before .before .before .args in
-    let key : ℕ → ℕ = λ j. leastSquare (getD (entriesAt (a .table .now) (a .slot)) j blankEntry .rect) (a .q) in
-    let read : c .least-square .result ≡ key (l .i) = c .least-square .ensures ∙ ap (λ (e : Entry). leastSquare (e .rect) (a .q)) (c .before .entry-at .ensures) in (
+    let es = entriesAt (a .table .now) (a .slot) in
+    let key : Entry → ℕ = λ e. leastSquare (e .rect) (a .q) in
+    let square : r .least-square .result ≡ keyAt (map key es) (l .i) =
+    r .least-square .ensures ∙ ap key (r .before .entry-at .ensures) ∙ sym (map-at key es blankEntry 0 (l .i) (in-node w)) in (
       omega (arith, w .loop-test .taken),
-      simp length-set (l .inv .1),
-      rw read (read-step key (l .keys) (l .i) (omega (arith, w .loop-test .taken, few (w .before), l .inv .1)) (l .inv .2)),
+      marked-next (map key es) (l .i) (l .marks) (c .mark .result) (l .inv .1) (omega (arith, w .loop-test .taken, few (w .before)))
+          (c .mark .ensures ∙ ap (λ k. markOf k (l .i)) square),
     )
 
+module _ (c : tie.After-loop Inv-loop μ-loop) where
+  abbrev keys : List ℕ
+  keys = let a = c .before .before .before .args in squares (a .table .now) (a .slot) (a .q)
+
+  abbrev count : ℕ
+  count = c .before .before .count-at .result
+
+  all-marked : Marked keys count (c .before .loop .marks)
+  all-marked =
+      let e : c .before .loop .i ≡ count = omega (arith, c .loop-test .left) in
+      subst (λ n. Marked keys n (c .before .loop .marks)) e (c .before .loop .inv .1)
+
 in-order-requires : tie.Need-in-order-requires Inv-loop μ-loop
-in-order-requires c κs = few (c .before)
+in-order-requires c κs = let d = c .before in marked-marks (keys d) (count d) (d .before .loop .marks) (all-marked d) (few (d .before))
 
 returns : tie.Need-returns Inv-loop μ-loop
 returns c =
-    let l = c .before .before in
-    let a = l .before .before .args in
-    let es = entriesAt (a .table .now) (a .slot) in
-    let key : Entry → ℕ = λ e. leastSquare (e .rect) (a .q) in
-    let e : l .loop .i ≡ l .before .count-at .result = omega (arith, c .before .loop-test .left) in
-    let m : l .before .count-at .result ≡ length es = l .before .count-at .ensures in
-    c .in-order .ensures
-    ∙ ap rowOf
-    ((rw e at (l .loop .inv .2))
-    ∙ ap (λ (n : ℕ). map (λ j. key (getD es j blankEntry)) (upFrom 0 n)) m
-    ∙ sym (map-map key (λ j. getD es j blankEntry) (upFrom 0 (length es)))
-    ∙ ap (map key) (pick-all es blankEntry))
+    let d = c .before .before in
+    let a = d .before .before .before .args in
+    let many : length (keys d) ≡ count d =
+    length-map (entriesAt (a .table .now) (a .slot)) (λ e. leastSquare (e .rect) (a .q)) ∙ sym (d .before .before .count-at .ensures) in
+    c .in-order .ensures ∙ ap rowOf (marked-keys (keys d) (count d) (d .before .loop .marks) (all-marked d) (few (d .before)) many)
 
 pub nearest-spec : {M : Type 1} → statement M
 nearest-spec =
@@ -110,8 +133,9 @@ nearest-spec =
     loop-holds
     entry-at-requires
     least-square-requires
-    mul-keys
-    array-write-keys
+    mark-requires
+    mul-marks
+    array-write-marks
     add-i
     loop-less
     loop-again
