@@ -4,7 +4,8 @@ use mathlib.Core.Path.{sym, subst}
 use native.Mathlib.Omega.{arith}
 use borrow.Author.Needs.{needs}
 use Rattle.figures.specs.Figures.{SLOTS}
-use Rattle.table.specs.Page.{held, shown}
+use Rattle.table.specs.Page.{held, shown, page, Shows}
+use Rattle.leaving.specs.Withdraw.{jointAt}
 use Rattle.table.proofs.Nodes.{full}
 use Rattle.leaving.proofs.WithdrawPages.{pair-room, first-child, pair-inside, pair-ten, pair-shows, join-merges, join-shares}
 use Rattle.leaving.proofs.withdraw.join_children.Statement.{statement}
@@ -49,66 +50,51 @@ joined-requires c κs =
     let y = c .node-at2 in
     pair-ten (a .table .now) (a .slot) (a .n) (a .a) (s .pre) (one .result) (two .result) (one .ensures) (two .ensures) (x .result) (y .result) (x .ensures) (y .ensures)
 
+-- the joint node shows what both children hold
+joint : (c : tie.After-joined)
+    → let a = c .before .before .before .before .before .before .before .args in
+    Shows (c .joined .result) (page (a .n .level - 1) (jointAt (a .table .now) (held (a .n)) (a .a)))
+joint c =
+    let s = c .before .before .before .before .before .before .before in
+    let a = s .args in
+    let one = c .before .before .before .before .before .child-at in
+    let two = c .before .before .child-at2 in
+    let x = c .before .before .before .before .node-at in
+    let y = c .before .node-at2 in
+    pair-shows (a .table .now) (a .slot) (a .n) (a .a) (s .pre) (one .result) (two .result) (one .ensures) (two .ensures) (x .result) (y .result) (x .ensures) (y .ensures)
+    (c .joined .result) (c .joined .ensures)
+
 merge-requires : tie.Need-merge-requires
 merge-requires c κs =
-    let s = c .before .before .before .before .before .before .before .before .before .before in
-    let a = s .args in
-    let one = c .before .before .before .before .before .before .before .before .child-at in
-    let two = c .before .before .before .before .before .child-at2 in
-    let x = c .before .before .before .before .before .before .before .node-at in
-    let y = c .before .before .before .before .node-at2 in
-    let r = c .before .before .before .joined in (
-      s .pre,
-      pair-shows (a .table .now) (a .slot) (a .n) (a .a) (s .pre) (one .result) (two .result) (one .ensures) (two .ensures) (x .result) (y .result) (x .ensures) (y .ensures)
-          (r .result) (r .ensures),
-      c .before .if1 .taken,
-    )
+    let d = c .before .before .before in
+    (d .before .before .before .before .before .before .before .pre, joint d, c .before .if1 .taken)
 
 same-length : tie.Need-same-length
 same-length c = search needs
 
 returns : tie.Need-returns
 returns c =
-    let s = c .before .before .before .before .before .before .before .before .before .before .before .before in
-    let a = s .args in
-    let one = c .before .before .before .before .before .before .before .before .before .before .child-at in
-    let two = c .before .before .before .before .before .before .before .child-at2 in
-    let x = c .before .before .before .before .before .before .before .before .before .node-at in
-    let y = c .before .before .before .before .before .before .node-at2 in
-    let r = c .before .before .before .before .before .joined in
-    let e = pair-shows (a .table .now) (a .slot) (a .n) (a .a) (s .pre) (one .result) (two .result) (one .ensures) (two .ensures) (x .result) (y .result) (x .ensures) (y .ensures)
-    (r .result) (r .ensures) in
-    join-merges (a .table .now) (a .slot) (a .n .level - 1) (held (a .n)) (a .a) (c .before .merge .last .0) (omega (arith, e .count, c .before .before .before .if1 .taken)) (c .before .merge .ensures)
+    let d = c .before .before .before .before .before in
+    let a = d .before .before .before .before .before .before .before .args in
+    join-merges (a .table .now) (a .slot) (a .n .level - 1) (held (a .n)) (a .a) (c .before .merge .last .0)
+    (omega (arith, joint d .count, c .before .before .before .if1 .taken))
+    (c .before .merge .ensures)
 
 share-requires : tie.Need-share-requires
 share-requires c κs =
-    let s = c .before .before .before .before .before .before .before .before .before .before in
-    let a = s .args in
-    let one = c .before .before .before .before .before .before .before .before .child-at in
-    let two = c .before .before .before .before .before .child-at2 in
-    let x = c .before .before .before .before .before .before .before .node-at in
-    let y = c .before .before .before .before .node-at2 in
-    let r = c .before .before .before .joined in (
-      s .pre,
-      pair-shows (a .table .now) (a .slot) (a .n) (a .a) (s .pre) (one .result) (two .result) (one .ensures) (two .ensures) (x .result) (y .result) (x .ensures) (y .ensures)
-          (r .result) (r .ensures),
-    )
+    let d = c .before .before .before in
+    (d .before .before .before .before .before .before .before .pre, joint d)
 
 same-length-2 : tie.Need-same-length-2
 same-length-2 c = search needs
 
 returns-2 : tie.Need-returns-2
 returns-2 c =
-    let s = c .before .before .before .before .before .before .before .before .before .before .before .before in
-    let a = s .args in
-    let one = c .before .before .before .before .before .before .before .before .before .before .child-at in
-    let two = c .before .before .before .before .before .before .before .child-at2 in
-    let x = c .before .before .before .before .before .before .before .before .before .node-at in
-    let y = c .before .before .before .before .before .before .node-at2 in
-    let r = c .before .before .before .before .before .joined in
-    let e = pair-shows (a .table .now) (a .slot) (a .n) (a .a) (s .pre) (one .result) (two .result) (one .ensures) (two .ensures) (x .result) (y .result) (x .ensures) (y .ensures)
-    (r .result) (r .ensures) in
-    join-shares (a .table .now) (a .slot) (a .n .level - 1) (held (a .n)) (a .a) (c .before .share .last .0) (omega (arith, e .count, c .before .before .before .if1 .left)) (c .before .share .ensures)
+    let d = c .before .before .before .before .before in
+    let a = d .before .before .before .before .before .before .before .args in
+    join-shares (a .table .now) (a .slot) (a .n .level - 1) (held (a .n)) (a .a) (c .before .share .last .0)
+    (omega (arith, joint d .count, c .before .before .before .if1 .left))
+    (c .before .share .ensures)
 
 pub join-children-spec : {M : Type 1} → statement M
 join-children-spec =
