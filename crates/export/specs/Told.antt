@@ -26,3 +26,8 @@ pub record Told (ws : Words) (q : Site) (k : ℤ) (before after : List Candidate
   pub candidates : recordsOf after ≡ afterQuery ws q k (recordsOf before) old .candidates
   pub answers : new ≡ afterQuery ws q k (recordsOf before) old .answers
   pub counts : told ≡ countsLaid (afterQuery ws q k (recordsOf before) old .counts) row
+
+-- any two outcomes that this permits are equal
+abbrev pub ToldOnce : Type 0
+ToldOnce = (ws : Words) (q : Site) (k : ℤ) (before after after′ : List Candidate) (old new new′ row told told′ : List ℕ) (r r′ : ℕ)
+    → Told ws q k before after old new row told r → Told ws q k before after′ old new′ row told′ r′ → (after ≡ after′) × (new ≡ new′) × (told ≡ told′) × (r ≡ r′)
