@@ -48,7 +48,7 @@ use Rattle.table.proofs.given.Given as G
 use Rattle.table.proofs.given.Given.Laws as G′
 use Rattle.row.specs.declared.record.Candidate.{Candidate}
 use Rattle.row.proofs.record.Candidate as C′
-use Rattle.row.proofs.WalkSteps.{lets-go}
+use Rattle.row.proofs.WalkSteps.{env, lets-go}
 use Rattle.desk.specs.declared.query.Answered.{Answered}
 use Rattle.desk.specs.Refusals.{site, queryGives}
 use Rattle.desk.specs.Lent.{told, refuses, Answers}
@@ -102,12 +102,6 @@ use Rattle.desk.proofs.query.query_passing.Code.Mir as mir′
 
 abbrev R : RattleType
 R = C′.the-row
-
--- the locals' places, as the function's own types have them
-abbrev env : List Local → List ℕ → List (Ty × ℕ)
-env [] bs = []
-env (x ∷ xs) [] = []
-env (local t h ∷ xs) (b ∷ bs) = (t, b) ∷ env xs bs
 
 abbrev stayed : Stays (f.ended .signature .params) (f.ended .kept)
 stayed = (
