@@ -1,6 +1,6 @@
 -- The laws of one axis: distances and their squares, spans that grow, what lies in a span, and the gap to it. Assumes nothing.
 use mathlib.Core.Path.{_≡_, refl, sym, ap, _∙_, subst}
-use mathlib.Core.Bool.{true, false, cond}
+use mathlib.Core.Bool.{Bool, true, false, cond}
 use mathlib.Core.Logic.{_⊎_, inl, inr, ⊎-elim}
 use Prim.Native.Nat.{ℕ, _+_, _-_, _*_, _≤_, _<_}
 use native.Mathlib.Decide.{decLe, decLt}
@@ -173,35 +173,25 @@ pub record Lead (s : Span) (c q : ℕ) (z : ℤ) : Type 0 where
   pub high : more + sq c (s .high) ≤ less + (sq q c + sq q (s .high))
   pub one : (less + (sq q c + sq q (s .low)) ≤ more + sq c (s .low)) ⊎ (less + (sq q c + sq q (s .high)) ≤ more + sq c (s .high))
 
+-- at the end v with the lesser product
+lead-at : (s : Span) (c q v : ℕ) → gains c q v + loses c q (s .low) ≤ gains c q (s .low) + loses c q v → gains c q v + loses c q (s .high) ≤ gains c q (s .high) + loses c q v
+    → (v ≡ s .low) ⊎ (v ≡ s .high) → Lead s c q (product c q v)
+lead-at s c q v a b end =
+    let l = at-end c q (s .low) in
+    let h = at-end c q (s .high) in
+    record { more = gains c q v; less = loses c q v; is = is-end c q v; low = omega arith; high = omega arith; one = go end }
+  where
+    go : (v ≡ s .low) ⊎ (v ≡ s .high) → (loses c q v + (sq q c + sq q (s .low)) ≤ gains c q v + sq c (s .low)) ⊎ (loses c q v + (sq q c + sq q (s .high)) ≤ gains c q v + sq c (s .high))
+    go (inl e) = inl (subst (λ (w : ℕ). loses c q v + (sq q c + sq q w) ≤ gains c q v + sq c w) e (let i = at-end c q v in omega arith))
+    go (inr e) = inr (subst (λ (w : ℕ). loses c q v + (sq q c + sq q w) ≤ gains c q v + sq c w) e (let i = at-end c q v in omega arith))
+
 pub lead : (s : Span) (c q : ℕ) → Lead s c q (leadOf (endsOf s q) c q)
 unfolding leadOf
 lead s c q = go (decLt (gains c q (s .low) + loses c q (s .high)) (gains c q (s .high) + loses c q (s .low)))
   where
+    chosen : (b : Bool) → ltb (gains c q (s .low) + loses c q (s .high)) (gains c q (s .high) + loses c q (s .low)) ≡ b → Lead s c q (cond b (product c q (s .low)) (product c q (s .high))) → Lead s c q (leadOf (endsOf s q) c q)
+    chosen b t = subst (λ (b′ : Bool). Lead s c q (cond b′ (product c q (s .low)) (product c q (s .high)))) (sym (lesser-end c q (s .low) (s .high) ∙ t))
+
     go : Dec (gains c q (s .low) + loses c q (s .high) < gains c q (s .high) + loses c q (s .low)) → Lead s c q (leadOf (endsOf s q) c q)
-    go (yes u) =
-        let l = at-end c q (s .low) in
-        let h = at-end c q (s .high) in
-        let t : ltZ (product c q (s .low)) (product c q (s .high)) ≡ true = lesser-end c q (s .low) (s .high) ∙ lt-ltb _ _ u in
-        subst (λ (z : ℤ). Lead s c q z) (sym (ap (λ b. cond b (product c q (s .low)) (product c q (s .high))) t))
-        (record {
-          more = gains c q (s .low);
-          less = loses c q (s .low);
-          is = is-end c q (s .low);
-          low = omega arith;
-          high = omega arith;
-          one = inl (omega arith);
-        })
-    go (no u) =
-        let l = at-end c q (s .low) in
-        let h = at-end c q (s .high) in
-        let v : gains c q (s .high) + loses c q (s .low) ≤ gains c q (s .low) + loses c q (s .high) = omega arith in
-        let t : ltZ (product c q (s .low)) (product c q (s .high)) ≡ false = lesser-end c q (s .low) (s .high) ∙ le-ltb _ _ v in
-        subst (λ (z : ℤ). Lead s c q z) (sym (ap (λ b. cond b (product c q (s .low)) (product c q (s .high))) t))
-        (record {
-          more = gains c q (s .high);
-          less = loses c q (s .high);
-          is = is-end c q (s .high);
-          low = omega arith;
-          high = omega arith;
-          one = inr (omega arith);
-        })
+    go (yes u) = chosen true (lt-ltb _ _ u) (lead-at s c q (s .low) (omega arith) (omega arith) (inl refl))
+    go (no u) = let v : gains c q (s .high) + loses c q (s .low) ≤ gains c q (s .low) + loses c q (s .high) = omega arith in chosen false (le-ltb _ _ v) (lead-at s c q (s .high) (omega arith) (omega arith) (inr refl))

@@ -46,6 +46,20 @@ holds-at t = and 1 holds-kinds.ps (is 1 holds-kinds.ps μ-holds t) holds.Pre
 abbrev holds-below : ℕ → In 1 holds-kinds.ps
 holds-below t = and 1 holds-kinds.ps (falls 1 holds-kinds.ps _<_ μ-holds t) holds.Pre
 
+-- what each of the two counts on in its callees: in the other, with a measure that falls
+abbrev child-place-calls : ℕ → child-place-lts.Claims
+child-place-calls t = (holds-below t, holds.Post)
+
+abbrev holds-calls : ℕ → holds-lts.Claims
+holds-calls t = (
+  node-at-reads.Asked,
+  node-at-reads.Learnt,
+  leaf-place-reads.Asked,
+  leaf-place-reads.Learnt,
+  child-place-below t,
+  child-place.Post,
+)
+
 abbrev child-place-Inv-loop : child-place-lts.InvT-loop
 child-place-Inv-loop table level number n count i₀ i =
     (i ≤ count) × ((k : ℕ) → k < i → holdsOf level table (getD (n .entries) k blankEntry .reference) number ≡ false)
@@ -56,7 +70,7 @@ child-place-μ-loop table level number n count i₀ i = count - i
 child-place-loop-holds :
     (t : ℕ) →
     child-place-lts.Need-loop-holds
-    (holds-below t, holds.Post)
+    (child-place-calls t)
     (child-place-at t)
     child-place.Post
     child-place-Inv-loop
@@ -66,23 +80,17 @@ child-place-loop-holds t c = (omega arith, λ k h. absurd (omega arith))
 child-place-mul-e :
     (t : ℕ) →
     child-place-lts.Need-mul-e
-    (holds-below t, holds.Post)
+    (child-place-calls t)
     (child-place-at t)
     child-place.Post
     child-place-Inv-loop
     child-place-μ-loop
 child-place-mul-e t c = omega arith
 
-child-place-element-copy-out-e : (t : ℕ) → child-place-lts.Need-element-copy-out-e (
-  holds-below t,
-  holds.Post,
-) (child-place-at t) child-place.Post child-place-Inv-loop child-place-μ-loop
+child-place-element-copy-out-e : (t : ℕ) → child-place-lts.Need-element-copy-out-e (child-place-calls t) (child-place-at t) child-place.Post child-place-Inv-loop child-place-μ-loop
 child-place-element-copy-out-e t c = omega arith
 
-child-place-holds-requires : (t : ℕ) → child-place-lts.Need-holds-requires (
-  holds-below t,
-  holds.Post,
-) (child-place-at t) child-place.Post child-place-Inv-loop child-place-μ-loop
+child-place-holds-requires : (t : ℕ) → child-place-lts.Need-holds-requires (child-place-calls t) (child-place-at t) child-place.Post child-place-Inv-loop child-place-μ-loop
 child-place-holds-requires t c κs =
     let s = c .before .before .before in
     let n = s .args .t3 in
@@ -93,7 +101,7 @@ child-place-holds-requires t c κs =
 child-place-returns :
     (t : ℕ) →
     child-place-lts.Need-returns
-    (holds-below t, holds.Post)
+    (child-place-calls t)
     (child-place-at t)
     child-place.Post
     child-place-Inv-loop
@@ -109,7 +117,7 @@ child-place-returns t c =
 child-place-add-i :
     (t : ℕ) →
     child-place-lts.Need-add-i
-    (holds-below t, holds.Post)
+    (child-place-calls t)
     (child-place-at t)
     child-place.Post
     child-place-Inv-loop
@@ -119,7 +127,7 @@ child-place-add-i t c = omega arith
 child-place-loop-less :
     (t : ℕ) →
     child-place-lts.Need-loop-less
-    (holds-below t, holds.Post)
+    (child-place-calls t)
     (child-place-at t)
     child-place.Post
     child-place-Inv-loop
@@ -129,7 +137,7 @@ child-place-loop-less t c = omega arith
 child-place-loop-again :
     (t : ℕ) →
     child-place-lts.Need-loop-again
-    (holds-below t, holds.Post)
+    (child-place-calls t)
     (child-place-at t)
     child-place.Post
     child-place-Inv-loop
@@ -145,7 +153,7 @@ child-place-loop-again t c =
 child-place-returns-2 :
     (t : ℕ) →
     child-place-lts.Need-returns-2
-    (holds-below t, holds.Post)
+    (child-place-calls t)
     (child-place-at t)
     child-place.Post
     child-place-Inv-loop
@@ -158,59 +166,24 @@ child-place-returns-2 t c =
     first-only (λ e. holdsOf (s .args .level) (s .args .table .now) (e .reference) (s .args .number)) blankEntry (n .entries) (n .count) (l .i) (omega arith) (omega arith)
     (l .inv .1) (λ h. absurd (omega arith))
 
-holds-node-at-requires : (t : ℕ) → holds-lts.Need-node-at-requires (
-  node-at-reads.Asked,
-  node-at-reads.Learnt,
-  leaf-place-reads.Asked,
-  leaf-place-reads.Learnt,
-  child-place-below t,
-  child-place.Post,
-) (holds-at t) holds.Post
+holds-node-at-requires : (t : ℕ) → holds-lts.Need-node-at-requires (holds-calls t) (holds-at t) holds.Post
 holds-node-at-requires t c κs = (c .pre .1 .long, planted-inside (c .pre .1))
 
-holds-leaf-place-requires : (t : ℕ) → holds-lts.Need-leaf-place-requires (
-  node-at-reads.Asked,
-  node-at-reads.Learnt,
-  leaf-place-reads.Asked,
-  leaf-place-reads.Learnt,
-  child-place-below t,
-  child-place.Post,
-) (holds-at t) holds.Post
+holds-leaf-place-requires : (t : ℕ) → holds-lts.Need-leaf-place-requires (holds-calls t) (holds-at t) holds.Post
 holds-leaf-place-requires t c κs =
     let a = c .before .before .args in
     node-few (a .table .now) (a .slot) (a .number) (a .level) (c .before .node-at .result) (c .before .node-at .ensures)
 
-holds-returns : (t : ℕ) → holds-lts.Need-returns (
-  node-at-reads.Asked,
-  node-at-reads.Learnt,
-  leaf-place-reads.Asked,
-  leaf-place-reads.Learnt,
-  child-place-below t,
-  child-place.Post,
-) (holds-at t) holds.Post
+holds-returns : (t : ℕ) → holds-lts.Need-returns (holds-calls t) (holds-at t) holds.Post
 holds-returns t c =
     let a = c .before .before .before .args in
     let n = c .before .before .node-at in
     leaf-found (a .table .now) (a .slot) (a .number) (a .level) (n .result) (n .ensures) (c .leaf-place .result) (c .leaf-place .ensures) (c .before .if1 .taken)
 
-holds-sub-child-place : (t : ℕ) → holds-lts.Need-sub-child-place (
-  node-at-reads.Asked,
-  node-at-reads.Learnt,
-  leaf-place-reads.Asked,
-  leaf-place-reads.Learnt,
-  child-place-below t,
-  child-place.Post,
-) (holds-at t) holds.Post
+holds-sub-child-place : (t : ℕ) → holds-lts.Need-sub-child-place (holds-calls t) (holds-at t) holds.Post
 holds-sub-child-place t c = omega (arith, c .if1 .left)
 
-holds-child-place-requires : (t : ℕ) → holds-lts.Need-child-place-requires (
-  node-at-reads.Asked,
-  node-at-reads.Learnt,
-  leaf-place-reads.Asked,
-  leaf-place-reads.Learnt,
-  child-place-below t,
-  child-place.Post,
-) (holds-at t) holds.Post
+holds-child-place-requires : (t : ℕ) → holds-lts.Need-child-place-requires (holds-calls t) (holds-at t) holds.Post
 holds-child-place-requires t c κs =
     let s = c .before .before in
     let a = s .args in
@@ -223,14 +196,7 @@ holds-child-place-requires t c κs =
       ),
     )
 
-holds-returns-2 : (t : ℕ) → holds-lts.Need-returns-2 (
-  node-at-reads.Asked,
-  node-at-reads.Learnt,
-  leaf-place-reads.Asked,
-  leaf-place-reads.Learnt,
-  child-place-below t,
-  child-place.Post,
-) (holds-at t) holds.Post
+holds-returns-2 : (t : ℕ) → holds-lts.Need-returns-2 (holds-calls t) (holds-at t) holds.Post
 holds-returns-2 t c =
     let a = c .before .before .before .args in
     let n = c .before .before .node-at in
@@ -238,10 +204,7 @@ holds-returns-2 t c =
     (omega (arith, c .before .if1 .left))
 
 pub +child-place+holds-spec : {M : Type 1} → statement M
-+child-place+holds-spec = close μ-child-place μ-holds (λ t. child-place-lts.spec (
-  holds-below t,
-  holds.Post,
-)
++child-place+holds-spec = close μ-child-place μ-holds (λ t. child-place-lts.spec (child-place-calls t)
     (child-place-at t)
     child-place.Post
     child-place-Inv-loop
@@ -255,14 +218,7 @@ pub +child-place+holds-spec : {M : Type 1} → statement M
     (child-place-loop-less t)
     (child-place-loop-again t)
     (child-place-returns-2 t))
-    λ t. holds-lts.spec (
-      node-at-reads.Asked,
-      node-at-reads.Learnt,
-      leaf-place-reads.Asked,
-      leaf-place-reads.Learnt,
-      child-place-below t,
-      child-place.Post,
-    )
+    λ t. holds-lts.spec (holds-calls t)
     (holds-at t)
     holds.Post
     (holds-node-at-requires t)
