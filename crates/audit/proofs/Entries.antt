@@ -18,10 +18,10 @@ use Rattle.table.specs.Words.{Words, between}
 use Rattle.table.specs.Page.{Page, Shows, held, blankEntry}
 use Rattle.table.specs.Slots.{pageAt, entriesAt}
 use Rattle.table.specs.Stations.{isPoint}
-use Rattle.audit.specs.Rules.{isAbove, isChild, rule5}
+use Rattle.rules.specs.Rules.{isAbove, isChild, rule5}
 use Rattle.table.proofs.Nodes.{page-at, held-length}
+use Rattle.rules.proofs.Tests.{and-left, and-right, every-all}
 use Rattle.audit.specs.Seen.{refsOf}
-use Rattle.audit.proofs.Tests.{and-left, and-right, every-all}
 use Rattle.audit.proofs.Every.{Tested, testAt, element-fails, elements-pass}
 
 -- ---- the tests of the entries that a node shows

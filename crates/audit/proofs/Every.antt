@@ -11,8 +11,8 @@ use borrow.Author.Count.{below-none, below-more}
 use Rattle.order.specs.Lists.{every, All}
 use Rattle.order.specs.Order.{upFrom}
 use Rattle.order.proofs.Lists.{all-at}
-use Rattle.audit.proofs.Tests.{by-test, every-all, all-every}
-use Rattle.audit.proofs.Counted.{every-below, below-every}
+use Rattle.rules.proofs.Tests.{by-test, every-all, all-every}
+use Rattle.rules.proofs.Counted.{every-below, below-every}
 
 -- the first i of n have passed
 pub record Tested (P : ℕ → Bool) (n i : ℕ) : Type 0 where

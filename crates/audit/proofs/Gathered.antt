@@ -14,8 +14,8 @@ use Rattle.table.specs.Page.{entryOf, filled, pageOf}
 use Rattle.table.specs.Slots.{pageAt, entriesAt}
 use Rattle.table.specs.Stations.{isLeaf, stationOf, stationsAt}
 use Rattle.table.proofs.Slots.{page-few}
-use Rattle.audit.proofs.Tests.{by-test}
-use Rattle.audit.proofs.Counted.{up-append}
+use Rattle.rules.proofs.Tests.{by-test}
+use Rattle.rules.proofs.Counted.{up-append}
 
 -- ---- one slot more
 

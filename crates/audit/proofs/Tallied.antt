@@ -15,10 +15,10 @@ use Rattle.order.proofs.Lists.{count-append}
 use Rattle.figures.specs.Figures.{FAN, SLOTS}
 use Rattle.table.specs.Words.{Words}
 use Rattle.table.specs.Slots.{entriesAt}
-use Rattle.audit.specs.Rules.{isAbove, refsAt}
+use Rattle.rules.specs.Rules.{isAbove, refsAt}
 use Rattle.table.proofs.Slots.{page-few}
+use Rattle.rules.proofs.Tests.{by-test}
 use Rattle.audit.specs.Seen.{Tally}
-use Rattle.audit.proofs.Tests.{by-test}
 use Rattle.audit.proofs.Gathered.{length-more}
 
 -- ---- the tally

@@ -6,9 +6,9 @@ use mathlib.Core.List.{List}
 use Rattle.order.specs.Lists.{every, join}
 use Rattle.table.specs.Words.{Words}
 use Rattle.table.specs.Slots.{slots, isFree}
-use Rattle.audit.specs.declared.rules.Rule.{Rule}
-use Rattle.audit.specs.declared.rules.Rule.the-variants.{Free, One, Three, Five, Six, Seven}
-use Rattle.audit.specs.Rules.{rule1, rule3, rule5, rule6, rule7, refsAt}
+use Rattle.rules.specs.Rules.{rule1, rule3, rule5, rule6, rule7, refsAt}
+use Rattle.audit.specs.declared.asked.Rule.{Rule}
+use Rattle.audit.specs.declared.asked.Rule.the-variants.{Free, One, Three, Five, Six, Seven}
 use Rattle.audit.specs.Seen.{Tally}
 
 abbrev pub ruleAt : Rule → Words → ℕ → Bool

@@ -8,7 +8,7 @@ use Rattle.table.specs.declared.given.Given.the-variants.{WrongLength, NotWellF
 use Rattle.table.specs.Given.{line, firstOf}
 use Rattle.figures.specs.Figures.{LENGTH}
 use Rattle.table.specs.Words.{Words}
-use Rattle.audit.specs.Rules.{wellFormed}
+use Rattle.rules.specs.Rules.{wellFormed}
 
 -- 1: table not 10,754 words
 abbrev pub wrongLength : Words → Bool

@@ -1,4 +1,3 @@
-pub mod Rules
 pub mod Check
 pub mod Seen
 pub mod Asked

@@ -4,7 +4,7 @@ ghost use mathlib.Core.Bool.{true};
 ghost use Prim.Native.Nat.{_<_};
 ghost use lib.ListN.{length};
 ghost use Rattle.figures.specs.Figures.{SLOTS, LENGTH};
-ghost use Rattle.audit.specs.Rules.{isAbove, isChild, sameSpan, sameRect, rule5, rule6};
+ghost use Rattle.rules.specs.Rules.{isAbove, isChild, sameSpan, sameRect, rule5, rule6};
 use axis::span::Span;
 use figures::Table;
 use grid::rect::Rect;

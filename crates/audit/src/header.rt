@@ -2,9 +2,9 @@
 ghost use mathlib.Core.Path.{_≡_};
 ghost use lib.ListN.{length};
 ghost use Rattle.figures.specs.Figures.{LENGTH};
-ghost use Rattle.audit.specs.Rules.{isEmpty, rule2};
-use crate::rules;
-use crate::rules::Rule;
+ghost use Rattle.rules.specs.Rules.{isEmpty, rule2};
+use crate::asked;
+use crate::asked::Rule;
 use axis::border;
 use figures::Table;
 use table::part;
@@ -22,7 +22,7 @@ pub fn is_empty(table: &[i32]) -> bool
         return false;
     }
     let uncounted = [0; Table::SLOTS];
-    rules::every_slot(table, Rule::Free, &uncounted)
+    asked::every_slot(table, Rule::Free, &uncounted)
 }
 
 // Rule 2: empty, or the root is a used slot and points are 1 to 500.

@@ -1,18 +1,18 @@
 // The table check: rules 1 to 7 of document 01, each a test of its own that may count on the rules before it. Those of one slot are asked by one loop.
 // It promises, for every slice of words whatever, exactly 1, 2 or 0; and never reads past an end.
-// It stands on table (parts, nodes, slots). Its proofs hold the theorem that a well-formed table stores one sound tree.
+// It stands on rules (what each rule says) and table (parts, nodes, slots).
 ghost use mathlib.Core.Path.{_≡_};
 ghost use Rattle.audit.specs.Check.{checkGives};
 
+pub mod asked;
 pub mod children;
 pub mod header;
 pub mod numbers;
 pub mod references;
-pub mod rules;
 pub mod shape;
 
+use asked::Rule;
 use figures::Table;
-use rules::Rule;
 use table::given::Given;
 
 // Document 01's table check: 1, 2 or 0, and the table stays as it is.
@@ -24,22 +24,22 @@ pub fn check(table: &[i32]) -> Given
     }
     // No reference is counted before rule 7.
     let uncounted = [0; Table::SLOTS];
-    if !rules::every_slot(table, Rule::One, &uncounted) {
+    if !asked::every_slot(table, Rule::One, &uncounted) {
         return Given::NotWellFormed;
     }
     if !header::rule2_holds(table) {
         return Given::NotWellFormed;
     }
-    if !rules::every_slot(table, Rule::Three, &uncounted) {
+    if !asked::every_slot(table, Rule::Three, &uncounted) {
         return Given::NotWellFormed;
     }
     if !numbers::rule4_holds(table) {
         return Given::NotWellFormed;
     }
-    if !rules::every_slot(table, Rule::Five, &uncounted) {
+    if !asked::every_slot(table, Rule::Five, &uncounted) {
         return Given::NotWellFormed;
     }
-    if !rules::every_slot(table, Rule::Six, &uncounted) {
+    if !asked::every_slot(table, Rule::Six, &uncounted) {
         return Given::NotWellFormed;
     }
     if !references::rule7_holds(table) {

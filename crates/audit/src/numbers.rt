@@ -10,7 +10,7 @@ ghost use Rattle.figures.specs.Figures.{FAN, SLOTS, LENGTH};
 ghost use Rattle.table.specs.Page.{held};
 ghost use Rattle.table.specs.Slots.{slots};
 ghost use Rattle.table.specs.Stations.{spanIsSpot, isPoint};
-ghost use Rattle.audit.specs.Rules.{numbersAt, rule4};
+ghost use Rattle.rules.specs.Rules.{numbersAt, rule4};
 ghost use Rattle.audit.specs.Seen.{refsOf, Marks, Entered};
 use axis::border;
 use axis::span::Span;

@@ -10,11 +10,11 @@ ghost use Rattle.figures.specs.Figures.{FAN, SLOTS, LENGTH};
 ghost use Rattle.table.specs.Page.{held};
 ghost use Rattle.table.specs.Slots.{slots};
 ghost use Rattle.table.specs.Stations.{stationsAt, stations};
-ghost use Rattle.audit.specs.Rules.{refsAt, rule5, rule7, rule7Header};
+ghost use Rattle.rules.specs.Rules.{refsAt, rule5, rule7, rule7Header};
 ghost use Rattle.audit.specs.Seen.{refsOf, Tally};
+use crate::asked;
+use crate::asked::Rule;
 use crate::children;
-use crate::rules;
-use crate::rules::Rule;
 use figures::Table;
 use table::node::Node;
 use table::slot;
@@ -100,5 +100,5 @@ pub fn rule7_holds(table: &[i32]) -> bool
         count_at(table, slot, &mut times);
         slot += 1;
     }
-    rules::every_slot(table, Rule::Seven, &times)
+    asked::every_slot(table, Rule::Seven, &times)
 }

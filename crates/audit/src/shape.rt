@@ -5,7 +5,7 @@ ghost use lib.ListN.{length, drop};
 ghost use Rattle.order.specs.Lists.{every};
 ghost use Rattle.figures.specs.Figures.{SLOTS, LENGTH};
 ghost use Rattle.table.specs.Words.{isZero};
-ghost use Rattle.audit.specs.Rules.{rule1, rule3, leastFill};
+ghost use Rattle.rules.specs.Rules.{rule1, rule3, leastFill};
 use axis::border;
 use figures::Table;
 use table::part;

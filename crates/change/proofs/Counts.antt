@@ -13,12 +13,12 @@ use Rattle.order.proofs.Lists.{count-append, all-mem, mem-all, same-perm}
 use Rattle.table.specs.declared.node.Entry.{Entry}
 use Rattle.figures.specs.Figures.{LEAST, SLOTS}
 use Rattle.table.specs.Stations.{isPoint}
-use Rattle.audit.specs.Rules.{sameSpan, sameRect}
+use Rattle.rules.specs.Rules.{sameSpan, sameRect}
 use Rattle.table.specs.Tree.{Tree, slotsOf, leavesOf, Filled}
 use Rattle.table.proofs.Slots.{entry-fields}
-use Rattle.audit.proofs.Tests.{and-left, and-right}
-use Rattle.audit.proofs.Counted.{number-counted, counted-number, nodup-count, count-nodup}
-use Rattle.audit.proofs.Reading.{Good}
+use Rattle.rules.proofs.Tests.{and-left, and-right}
+use Rattle.rules.proofs.Counted.{number-counted, counted-number, nodup-count, count-nodup}
+use Rattle.rules.proofs.Reading.{Good}
 use Rattle.change.proofs.Frame.{times, Inside, offGrid, Sited}
 
 -- ---- slots

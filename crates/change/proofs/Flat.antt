@@ -5,7 +5,7 @@ use mathlib.Core.List.{List}
 use Rattle.order.specs.Lists.{count}
 use Rattle.table.specs.declared.node.Entry.{Entry}
 use Rattle.table.specs.Tree.{Tree, slotsOf, leavesOf, Filled}
-use Rattle.audit.proofs.Reading.{Good}
+use Rattle.rules.proofs.Reading.{Good}
 use Rattle.change.proofs.Frame.{times, Inside, offGrid, Sited}
 use Rattle.change.proofs.Counts.{good-counts, counts-good}
 

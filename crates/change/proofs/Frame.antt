@@ -17,9 +17,9 @@ use Rattle.table.specs.Slots.{putPage, freed}
 use Rattle.table.specs.Stations.{isPoint}
 use Rattle.table.specs.Tree.{Tree, slotsOf, Stored}
 use Rattle.table.proofs.Slots.{put-other, put-long, put-header, freed-other, freed-long, freed-header}
-use Rattle.audit.proofs.Joined.{mem-join}
-use Rattle.audit.proofs.Counted.{number-counted}
-use Rattle.audit.proofs.Reading.{stored-frame}
+use Rattle.rules.proofs.Joined.{mem-join}
+use Rattle.rules.proofs.Counted.{number-counted}
+use Rattle.rules.proofs.Reading.{stored-frame}
 use Rattle.change.proofs.Items.{Item, slotsOfItem, StoredItem}
 
 -- how often a slot stands in a list

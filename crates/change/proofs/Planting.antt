@@ -11,8 +11,8 @@ use Rattle.table.specs.Words.{Words}
 use Rattle.table.specs.Page.{page}
 use Rattle.table.specs.Slots.{pageAt, entriesAt}
 use Rattle.table.specs.Tree.{Tree, Filled, entryOfTree, entriesOfTree, leastOf}
-use Rattle.audit.proofs.Joined.{all-map}
-use Rattle.audit.proofs.Reading.{Good, good-child, top-inside, entry-reference, stored-page, stored-child}
+use Rattle.rules.proofs.Joined.{all-map}
+use Rattle.rules.proofs.Reading.{Good, good-child, top-inside, entry-reference, stored-page, stored-child}
 use Rattle.change.specs.Planted.{Planted}
 
 pub filled-least : (l : ℕ) (t : Tree l) → Filled LEAST l t → Filled (leastOf l) l t

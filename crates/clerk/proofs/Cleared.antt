@@ -12,7 +12,7 @@ use Rattle.table.specs.Page.{freeWords}
 use Rattle.table.specs.Slots.{freed, withRoot, withPoints}
 use Rattle.table.specs.Empty.{emptyTable}
 use Rattle.table.proofs.Slots.{freed-here, freed-other, freed-long, freed-header}
-use Rattle.audit.proofs.EmptyTable.{blank-empty}
+use Rattle.rules.proofs.EmptyTable.{blank-empty}
 
 -- the header is the empty table's, and the first n slots are free
 pub record Cleared (ws : Words) (n : ℕ) : Type 0 where

@@ -8,7 +8,7 @@ use lib.Dec.{leb, ltb}
 use lib.ListN.{length, take, replicate, length-replicate}
 use borrow.Author.Tests.{ltb-true, ltb-false, le-ltb}
 use Rattle.order.proofs.Lists.{by-bool}
-use Rattle.audit.proofs.Tests.{and-left}
+use Rattle.rules.proofs.Tests.{and-left}
 use Rattle.figures.specs.Figures.{MOST}
 use Rattle.table.specs.Empty.{emptyTable}
 use Rattle.sheet.specs.Bytes.{Bytes, FEED, linesOf}

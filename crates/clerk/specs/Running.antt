@@ -7,7 +7,7 @@ use lib.Dec.{leb, ltb}
 use lib.ListN.{length, take, drop}
 use Rattle.figures.specs.Figures.{MOST, LENGTH}
 use Rattle.table.specs.Words.{Words}
-use Rattle.audit.specs.Rules.{wellFormed}
+use Rattle.rules.specs.Rules.{wellFormed}
 use Rattle.table.specs.Given.{numberGiven}
 use Rattle.sheet.specs.Bytes.{Bytes, linesOf}
 use Rattle.sheet.specs.Marks.{lineOf, nextOf}

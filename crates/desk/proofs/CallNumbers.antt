@@ -15,8 +15,8 @@ use Rattle.table.specs.Words.{Words, word, partAt}
 use Rattle.table.specs.Page.{entryOf, filled, pageOf}
 use Rattle.table.specs.Slots.{slots, pageAt}
 use Rattle.table.specs.Stations.{isLeaf, stationOf, stationsAt, stations}
-use Rattle.audit.specs.Rules.{numbersAt}
-use Rattle.audit.proofs.Joined.{map-join}
+use Rattle.rules.specs.Rules.{numbersAt}
+use Rattle.rules.proofs.Joined.{map-join}
 use Rattle.desk.specs.Refusals.{numbersOf}
 use Rattle.desk.proofs.CallTests.{some-at, none-at, some-join}
 

@@ -17,7 +17,7 @@ use Rattle.table.specs.declared.given.Given.the-variants.{Done, WrongLength, No
 use Rattle.table.proofs.given.Given.{the-type}
 use Rattle.figures.specs.Figures.{LENGTH}
 use Rattle.table.specs.Words.{Words}
-use Rattle.audit.specs.Rules.{wellFormed}
+use Rattle.rules.specs.Rules.{wellFormed}
 use Rattle.table.specs.Given.{numberGiven}
 use Rattle.audit.specs.Check.{wrongLength, malformed, checkGives}
 use Rattle.joining.specs.Enrol.{enrolled}

@@ -16,7 +16,7 @@ use Rattle.table.specs.declared.given.Given.{Given}
 use Rattle.table.specs.declared.given.Given.the-variants.{Done, WrongLength, NotWellFormed, OffGrid, NoSuchK, FewCandidates, FewAnswers}
 use Rattle.figures.specs.Figures.{LENGTH}
 use Rattle.table.specs.Words.{Words, pointsOf}
-use Rattle.audit.specs.Rules.{wellFormed}
+use Rattle.rules.specs.Rules.{wellFormed}
 use Rattle.table.specs.Given.{Line, line, numberGiven, firstOf}
 use Rattle.audit.specs.Check.{wrongLength, malformed, checkGives}
 use Rattle.filter.specs.Query.{Record, Counts, answersFound}

@@ -14,7 +14,7 @@ use mir.ValLaws.{toZ-ofZ}
 use borrow.Author.Tests.{lt-leb, le-leb, lt-ltb, le-ltb}
 use Rattle.order.specs.Lists.{some, join}
 use Rattle.table.specs.Words.{between}
-use Rattle.audit.proofs.Tests.{or-second}
+use Rattle.rules.proofs.Tests.{or-second}
 
 -- ---- what a callee that was passed words says of them
 

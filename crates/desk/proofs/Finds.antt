@@ -18,10 +18,10 @@ use Rattle.table.specs.Words.{Words, pointsOf}
 use Rattle.table.specs.Stations.{Station, stations, isPoint, stationOfEntry}
 use Rattle.table.specs.Given.{firstOf}
 use Rattle.table.specs.Empty.{emptyTable}
-use Rattle.audit.proofs.Joined.{all-map, all-then}
-use Rattle.audit.proofs.Size.{sound-bounds}
-use Rattle.audit.proofs.Reading.{Point, point, held-points}
-use Rattle.audit.proofs.WellFormed.{empty-is-empty}
+use Rattle.rules.proofs.Joined.{all-map, all-then}
+use Rattle.rules.proofs.Size.{sound-bounds}
+use Rattle.rules.proofs.Reading.{Point, point, held-points}
+use Rattle.rules.proofs.WellFormed.{empty-is-empty}
 use Rattle.filter.specs.Meaning.{answersTo, rising, answer}
 use Rattle.filter.specs.Walk.{Found}
 use Rattle.filter.specs.Query.{Record, recordOf, found, recordsFound, answersFound, laidOver}

@@ -23,7 +23,7 @@ use Rattle.table.specs.declared.given.Given.the-variants.{
   SheetTooLong,
 }
 use Rattle.table.specs.Given.{Line, line, numberGiven, firstOf}
-use Rattle.audit.proofs.Tests.{and-left, and-right}
+use Rattle.rules.proofs.Tests.{and-left, and-right}
 use Rattle.desk.specs.Calls.{ifDone, ifFewAnswers}
 
 -- ---- by its cases

@@ -24,13 +24,13 @@ use Rattle.table.specs.Words.{Words}
 use Rattle.table.specs.Stations.{Station, stationOfEntry, stations, spanIsSpot, isPoint}
 use Rattle.table.specs.Empty.{emptyTable}
 use Rattle.table.specs.Tree.{bough, leavesOf}
-use Rattle.audit.proofs.Tests.{both-true, true-between}
-use Rattle.audit.proofs.Reading.{held-points}
-use Rattle.audit.proofs.Held.{held-stations}
-use Rattle.audit.proofs.WellFormed.{Held, empty-stations}
+use Rattle.rules.proofs.Tests.{both-true, true-between}
+use Rattle.rules.proofs.Reading.{held-points}
+use Rattle.rules.proofs.Held.{held-stations}
+use Rattle.rules.proofs.WellFormed.{Held, empty-stations}
 use Rattle.joining.specs.Enrol.{enrolled}
 use Rattle.leaving.specs.Withdraw.{withdrawn}
-use Rattle.audit.proofs.EmptyTable.{empty-blank}
+use Rattle.rules.proofs.EmptyTable.{empty-blank}
 use Rattle.joining.proofs.Enrolled.{enrolled-holds, first-sound, first-holds}
 use Rattle.leaving.proofs.Withdrawn.{mem-some, withdrawn-last, withdrawn-tree}
 use Rattle.filter.proofs.Rising.{perm-filter}

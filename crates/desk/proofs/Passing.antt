@@ -20,12 +20,12 @@ use Rattle.table.specs.Stations.{Station, stationOfEntry, stations}
 use Rattle.table.specs.Empty.{emptyTable}
 use Rattle.table.specs.Tree.{leavesOf, slotsOf}
 use Rattle.table.proofs.Slots.{free-part-free}
-use Rattle.audit.proofs.Size.{sound-bounds}
-use Rattle.audit.proofs.Reading.{held-points, stored-level}
-use Rattle.audit.proofs.Complete.{slots-perm}
-use Rattle.audit.proofs.EmptyTable.{empty-blank}
-use Rattle.audit.proofs.Held.{held-complete, held-fits, held-stations, held-stations-length, subtree-here}
-use Rattle.audit.proofs.WellFormed.{Held, well-formed-means, tree-well-formed, empty-length, empty-fits, empty-well-formed, empty-stations}
+use Rattle.rules.proofs.Size.{sound-bounds}
+use Rattle.rules.proofs.Reading.{held-points, stored-level}
+use Rattle.rules.proofs.Complete.{slots-perm}
+use Rattle.rules.proofs.EmptyTable.{empty-blank}
+use Rattle.rules.proofs.Held.{held-complete, held-fits, held-stations, held-stations-length, subtree-here}
+use Rattle.rules.proofs.WellFormed.{Held, well-formed-means, tree-well-formed, empty-length, empty-fits, empty-well-formed, empty-stations}
 use Rattle.filter.proofs.Meaning.{count-none}
 use Rattle.desk.specs.Demands.{Passing}
 

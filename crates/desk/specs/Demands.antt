@@ -18,7 +18,7 @@ use Rattle.figures.specs.Figures.{MOST, SLOTS, LENGTH}
 use Rattle.table.specs.Words.{Words}
 use Rattle.table.specs.Slots.{slots, isFree, levelAt}
 use Rattle.table.specs.Stations.{Station, stations}
-use Rattle.audit.specs.Rules.{wellFormed}
+use Rattle.rules.specs.Rules.{wellFormed}
 use Rattle.filter.specs.Meaning.{answer}
 use Rattle.audit.specs.Check.{checkGives}
 use Rattle.filter.specs.Query.{Record, found, recordOf, recordsFound, countsOf, laidOver}

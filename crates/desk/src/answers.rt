@@ -3,7 +3,7 @@ ghost use mathlib.Core.Path.{_≡_};
 ghost use mathlib.Core.Bool.{true};
 ghost use lib.ListN.{length};
 ghost use Rattle.figures.specs.Figures.{LENGTH};
-ghost use Rattle.audit.specs.Rules.{wellFormed};
+ghost use Rattle.rules.specs.Rules.{wellFormed};
 ghost use Rattle.desk.specs.Refusals.{site};
 ghost use Rattle.desk.specs.Alone.{AnswersAlone};
 use crate::query::Answered;

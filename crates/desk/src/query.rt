@@ -4,7 +4,7 @@ ghost use mathlib.Core.Bool.{true};
 ghost use lib.ListN.{length};
 ghost use Rattle.axis.specs.Word.{natOf};
 ghost use Rattle.figures.specs.Figures.{LENGTH};
-ghost use Rattle.audit.specs.Rules.{wellFormed};
+ghost use Rattle.rules.specs.Rules.{wellFormed};
 ghost use Rattle.filter.specs.Query.{answersFound};
 ghost use Rattle.desk.specs.Refusals.{site, queryGives};
 ghost use Rattle.desk.specs.Lent.{told, refuses, Answers};

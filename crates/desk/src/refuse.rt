@@ -4,7 +4,7 @@ ghost use Prim.Native.Nat.{_<_};
 ghost use lib.ListN.{length};
 ghost use Rattle.order.specs.Lists.{has};
 ghost use Rattle.figures.specs.Figures.{SLOTS, LENGTH};
-ghost use Rattle.audit.specs.Rules.{numbersAt};
+ghost use Rattle.rules.specs.Rules.{numbersAt};
 ghost use Rattle.desk.specs.Refusals.{site, noSuchNumber, offGrid, noSuchK, isEnrolled, isFull};
 use axis::border;
 use figures::Table;

@@ -25,18 +25,18 @@ use Rattle.table.specs.Page.{pageOf}
 use Rattle.table.specs.Slots.{slots, isFree, pageAt}
 use Rattle.table.specs.Stations.{Station, stationsAt, stations, isPoint, stationOfEntry}
 use Rattle.figures.specs.Figures.{LENGTH}
-use Rattle.audit.specs.Rules.{isEmpty, wellFormed}
+use Rattle.rules.specs.Rules.{isEmpty, wellFormed}
 use Rattle.table.specs.Tree.{Tree, topOf, slotsOf, leavesOf, Sound, Holds}
 use Rattle.filter.specs.Meaning.{nearerOther, answersTo, rising, answer}
 use Rattle.filter.specs.Walk.{Found, spotIn, walk}
 use Rattle.filter.specs.Query.{nothing, found, answersFound}
 use Rattle.filter.proofs.Rising.{filter-append, filter-none, perm-filter, rising-same}
 use Rattle.filter.proofs.Steps.{Hidden, Step, step-few, step-all, step-walk}
-use Rattle.audit.proofs.Tests.{and-left, and-right, by-test}
-use Rattle.audit.proofs.Joined.{all-then, nodup-left, nodup-apart}
-use Rattle.audit.proofs.Reading.{Point, point, good-root, stored-level, held-points}
-use Rattle.audit.proofs.Held.{held-stations, not-empty}
-use Rattle.audit.proofs.WellFormed.{well-formed-tree}
+use Rattle.rules.proofs.Tests.{and-left, and-right, by-test}
+use Rattle.rules.proofs.Joined.{all-then, nodup-left, nodup-apart}
+use Rattle.rules.proofs.Reading.{Point, point, good-root, stored-level, held-points}
+use Rattle.rules.proofs.Held.{held-stations, not-empty}
+use Rattle.rules.proofs.WellFormed.{well-formed-tree}
 
 -- ---- a leaf's entry as a station
 

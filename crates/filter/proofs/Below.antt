@@ -22,8 +22,8 @@ use Rattle.table.specs.Words.{Words}
 use Rattle.table.specs.Page.{blankEntry}
 use Rattle.table.specs.Slots.{entriesAt}
 use Rattle.table.specs.Tree.{Tree, topOf, entryOfTree, leavesOf, Stored}
-use Rattle.audit.proofs.Joined.{join-map, join-same, all-then, all-map}
-use Rattle.audit.proofs.Reading.{Good, good-child, entry-reference, stored-child, stored-entries}
+use Rattle.rules.proofs.Joined.{join-map, join-same, all-then, all-map}
+use Rattle.rules.proofs.Reading.{Good, good-child, entry-reference, stored-child, stored-entries}
 use Rattle.filter.specs.Walk.{spotIn}
 use Rattle.filter.specs.Passable.{Passable}
 use Rattle.filter.specs.Test.{otherNearer, below, Boxed}

@@ -17,7 +17,7 @@ use Rattle.figures.specs.Figures.{SLOTS}
 use Rattle.table.specs.Page.{blankEntry}
 use Rattle.table.specs.Slots.{entriesAt}
 use Rattle.table.specs.Stations.{isPoint}
-use Rattle.audit.proofs.Joined.{all-then}
+use Rattle.rules.proofs.Joined.{all-then}
 use Rattle.filter.specs.declared.seen.Seen.{Seen}
 use Rattle.filter.specs.Walk.{Found, each, nearestFirst, withOpened, visited, entered, walk}
 use Rattle.filter.specs.Rows.{Rows, foundIn, Kept, Noted, Ready}

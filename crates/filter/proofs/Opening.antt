@@ -16,12 +16,12 @@ use Rattle.table.specs.declared.node.Entry.{Entry}
 use Rattle.figures.specs.Figures.{LENGTH, LEAST}
 use Rattle.table.specs.Words.{Words, rootOf, pointsOf, isMinusOne, word}
 use Rattle.table.specs.Slots.{slots, levelAt}
-use Rattle.audit.specs.Rules.{leafEntries, isEmpty, wellFormed}
+use Rattle.rules.specs.Rules.{leafEntries, isEmpty, wellFormed}
 use Rattle.table.specs.Tree.{Tree, topOf, entryOfTree, leastOf, Stored}
-use Rattle.audit.proofs.Tests.{and-left, and-right, by-test}
-use Rattle.audit.proofs.Joined.{all-map}
-use Rattle.audit.proofs.Size.{some-leaf, sound-bounds}
-use Rattle.audit.proofs.Reading.{
+use Rattle.rules.proofs.Tests.{and-left, and-right, by-test}
+use Rattle.rules.proofs.Joined.{all-map}
+use Rattle.rules.proofs.Size.{some-leaf, sound-bounds}
+use Rattle.rules.proofs.Reading.{
   Good,
   good-root,
   good-child,
@@ -35,9 +35,9 @@ use Rattle.audit.proofs.Reading.{
   held-root,
   held-points,
 }
-use Rattle.audit.proofs.Complete.{leaves-perm}
-use Rattle.audit.proofs.Held.{held-complete}
-use Rattle.audit.proofs.WellFormed.{Held, well-formed-tree}
+use Rattle.rules.proofs.Complete.{leaves-perm}
+use Rattle.rules.proofs.Held.{held-complete}
+use Rattle.rules.proofs.WellFormed.{Held, well-formed-tree}
 use Rattle.filter.specs.declared.seen.Seen.{Seen}
 use Rattle.filter.specs.Walk.{walk}
 use Rattle.filter.specs.Query.{nothing, found}

@@ -23,8 +23,8 @@ use Rattle.table.specs.declared.node.Entry.{Entry}
 use Rattle.table.specs.Page.{blankEntry}
 use Rattle.table.specs.Stations.{isPoint}
 use Rattle.table.proofs.Nodes.{entry-ext}
-use Rattle.audit.proofs.Joined.{all-then}
-use Rattle.audit.proofs.Reading.{Point, point, point-spot}
+use Rattle.rules.proofs.Joined.{all-then}
+use Rattle.rules.proofs.Reading.{Point, point, point-spot}
 use Rattle.order.specs.Order.{upFrom}
 
 pub count-map : {A B : Type 0} (P : B → Bool) (f : A → B) (xs : List A) → count P (map f xs) ≡ count (λ x. P (f x)) xs

@@ -22,8 +22,8 @@ use Rattle.figures.specs.Figures.{LEAST}
 use Rattle.table.specs.Stations.{isPoint}
 use Rattle.table.specs.Tree.{Tree, topOf, entryOfTree, slotsOf, leavesOf, Stored}
 use Rattle.table.proofs.Cover.{cover-mem}
-use Rattle.audit.proofs.Joined.{all-left}
-use Rattle.audit.proofs.Reading.{Point, point, Good, good-child, good-children, entry-reference, stored-child, stored-entries}
+use Rattle.rules.proofs.Joined.{all-left}
+use Rattle.rules.proofs.Reading.{Point, point, Good, good-child, good-children, entry-reference, stored-child, stored-entries}
 use Rattle.filter.proofs.Rows.{map-same}
 use Rattle.filter.specs.Walk.{Found, spotIn, each, nearestFirst, pointHidden, boxHidden, withCandidate, withOpened, visited, entered, walk}
 

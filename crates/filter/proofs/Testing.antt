@@ -21,13 +21,13 @@ use Rattle.figures.specs.Figures.{SLOTS, LENGTH}
 use Rattle.table.specs.Words.{Words, rootOf}
 use Rattle.table.specs.Slots.{slots, levelAt}
 use Rattle.table.specs.Stations.{stationOfEntry, stations, isPoint}
-use Rattle.audit.specs.Rules.{leafEntries, isEmpty, wellFormed}
-use Rattle.audit.proofs.Joined.{all-join, all-then}
-use Rattle.audit.proofs.Passed.{passed}
-use Rattle.audit.proofs.EachRule.{points-fact}
-use Rattle.audit.proofs.FromRules.{part-fits}
-use Rattle.audit.proofs.Enrolled.{stations-length, stations-leaves}
-use Rattle.audit.proofs.Reading.{Point, point}
+use Rattle.rules.specs.Rules.{leafEntries, isEmpty, wellFormed}
+use Rattle.rules.proofs.Joined.{all-join, all-then}
+use Rattle.rules.proofs.Passed.{passed}
+use Rattle.rules.proofs.EachRule.{points-fact}
+use Rattle.rules.proofs.FromRules.{part-fits}
+use Rattle.rules.proofs.Enrolled.{stations-length, stations-leaves}
+use Rattle.rules.proofs.Reading.{Point, point}
 use Rattle.filter.specs.Meaning.{nearerOther, answersTo}
 use Rattle.filter.specs.Walk.{spotIn}
 use Rattle.filter.specs.Test.{otherNearer, passes, below}

@@ -17,8 +17,8 @@ use Rattle.table.specs.Words.{Words}
 use Rattle.table.specs.Page.{blankEntry}
 use Rattle.table.specs.Slots.{entriesAt}
 use Rattle.table.specs.Stations.{isPoint}
-use Rattle.audit.proofs.Joined.{all-then}
-use Rattle.audit.proofs.Reading.{Point, point}
+use Rattle.rules.proofs.Joined.{all-then}
+use Rattle.rules.proofs.Reading.{Point, point}
 use Rattle.filter.specs.declared.seen.Seen.{Seen}
 use Rattle.filter.specs.Walk.{Found, each, nearestFirst, pointHidden, boxHidden, withCandidate, withOpened, visited, entered, walk}
 use Rattle.filter.specs.Rows.{Rows, listed, laidIn, foundIn, Room, Kept, Noted, Ready}

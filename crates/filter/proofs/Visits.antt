@@ -19,7 +19,7 @@ use Rattle.order.proofs.Order.{up-length, up-at}
 use Rattle.table.specs.declared.node.Entry.{Entry}
 use Rattle.table.specs.Page.{blankEntry}
 use Rattle.table.specs.Stations.{isPoint}
-use Rattle.audit.proofs.Reading.{point}
+use Rattle.rules.proofs.Reading.{point}
 use Rattle.filter.specs.declared.seen.Seen.{Seen}
 use Rattle.filter.specs.Walk.{Found, spotIn, pointHidden, boxHidden, withCandidate, visited, entered}
 use Rattle.filter.specs.Rows.{Rows, rows, placeIn, entryIn, listed, laidIn, foundIn, Room, Kept, Noted, Ready}

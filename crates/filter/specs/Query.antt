@@ -12,7 +12,7 @@ use Rattle.table.specs.declared.node.Entry.{Entry}
 use Rattle.table.specs.Words.{Words, rootOf}
 use Rattle.table.specs.Slots.{levelAt}
 use Rattle.table.specs.Stations.{stations, stationOfEntry}
-use Rattle.audit.specs.Rules.{isEmpty}
+use Rattle.rules.specs.Rules.{isEmpty}
 use Rattle.filter.specs.Meaning.{answersTo, rising}
 use Rattle.filter.specs.Walk.{Found, spotIn, walk}
 

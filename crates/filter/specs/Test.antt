@@ -10,7 +10,7 @@ use Rattle.order.specs.Lists.{count, join, All}
 use Rattle.table.specs.declared.node.Entry.{Entry}
 use Rattle.table.specs.Words.{Words}
 use Rattle.table.specs.Slots.{slots, entriesAt}
-use Rattle.audit.specs.Rules.{leafEntries}
+use Rattle.rules.specs.Rules.{leafEntries}
 use Rattle.filter.specs.Walk.{spotIn}
 
 -- the entry is another point, nearer to the point with this number at p than a place at the squared distance far from p

@@ -7,7 +7,7 @@ ghost use Rattle.grid.specs.Site.{placeOf};
 ghost use Rattle.order.specs.Lists.{All};
 ghost use Rattle.figures.specs.Figures.{LENGTH};
 ghost use Rattle.table.specs.Words.{pointsOf};
-ghost use Rattle.audit.specs.Rules.{wellFormed};
+ghost use Rattle.rules.specs.Rules.{wellFormed};
 ghost use Rattle.filter.specs.Query.{found};
 ghost use Rattle.filter.specs.Rows.{rows, Room, Noted};
 use crate::seen::Seen;

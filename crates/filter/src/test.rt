@@ -9,7 +9,7 @@ ghost use Rattle.order.specs.Lists.{count as countOf, All};
 ghost use Rattle.figures.specs.Figures.{SLOTS, LENGTH};
 ghost use Rattle.table.specs.Slots.{entriesAt};
 ghost use Rattle.table.specs.Stations.{isPoint};
-ghost use Rattle.audit.specs.Rules.{wellFormed};
+ghost use Rattle.rules.specs.Rules.{wellFormed};
 ghost use Rattle.filter.specs.Passable.{Passable};
 ghost use Rattle.filter.specs.Test.{otherNearer, below as belowOf, Boxed, passes as passesOf};
 use grid::place::Place;

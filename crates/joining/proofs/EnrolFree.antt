@@ -17,7 +17,7 @@ use Rattle.table.specs.Page.{Page}
 use Rattle.table.specs.Slots.{slots, isFree, putPage, lowestFree}
 use Rattle.table.proofs.Slots.{put-here, put-other, page-part-used}
 use Rattle.joining.specs.Within.{freeCount}
-use Rattle.audit.proofs.Counted.{nodup-up}
+use Rattle.rules.proofs.Counted.{nodup-up}
 
 -- ---- counts of tests that agree
 

@@ -18,7 +18,7 @@ use Rattle.table.specs.Page.{page, pageWords}
 use Rattle.table.specs.Slots.{isFree, putPage, lowestFree, entryFor}
 use Rattle.table.specs.Tree.{Tree, bough, topOf, entryOfTree, slotsOf, leavesOf, Filled, leastOf, Stored}
 use Rattle.table.proofs.Slots.{put-here, put-long, put-other, header-part, lowest-free}
-use Rattle.audit.proofs.Reading.{stored-frame}
+use Rattle.rules.proofs.Reading.{stored-frame}
 use Rattle.joining.specs.Within.{freeCount}
 use Rattle.joining.specs.Enrol.{Grown, rooted}
 use Rattle.change.proofs.Frame.{times, times-self, times-one, times-other, put-frame, items-kept}

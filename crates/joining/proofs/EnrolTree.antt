@@ -25,7 +25,7 @@ use Rattle.joining.specs.Enrol.{Grown, settled, inserted}
 use Rattle.change.proofs.Chosen.{chosen-in}
 use Rattle.change.proofs.Items.{join-none, all-unit, slotsOfItem}
 use Rattle.change.proofs.Frame.{times, times-self, times-one, Frame, offGrid, frame-wide, frame-then, stored-kept, items-kept}
-use Rattle.audit.proofs.Reading.{Good, good-child, top-inside, noTree, childAt, child-in, child-entry, stored-child, stored-used, stored-entries, stored-entry, entry-reference}
+use Rattle.rules.proofs.Reading.{Good, good-child, top-inside, noTree, childAt, child-in, child-entry, stored-child, stored-used, stored-entries, stored-entry, entry-reference}
 use Rattle.change.proofs.Counts.{good-counts, counts-good, items-good, point-counts}
 use Rattle.joining.proofs.EnrolFree.{free-part}
 use Rattle.joining.proofs.EnrolNode.{Made, Ready, free-used, settled-made}

@@ -21,12 +21,12 @@ use Rattle.table.specs.Slots.{slots, isFree, putPage, entryFor, withRoot, withP
 use Rattle.table.specs.Stations.{isPoint}
 use Rattle.table.specs.Tree.{Tree, bough, topOf, slotsOf, leavesOf, leastOf, Sound, Holds}
 use Rattle.table.proofs.Slots.{put-here, put-other, put-long, header-part}
-use Rattle.audit.proofs.Counted.{number-counted, number-missing, count-nodup}
-use Rattle.audit.proofs.Size.{sound-bounds}
-use Rattle.audit.proofs.Reading.{good-root, least-some, held-root, held-points, stored-level, stored-entry}
-use Rattle.audit.proofs.Held.{eight-free, not-empty}
-use Rattle.audit.proofs.EmptyTable.{Blank, blank-is-empty}
-pub use Rattle.audit.proofs.EmptyTable.{empty-blank as empty-bare}
+use Rattle.rules.proofs.Counted.{number-counted, number-missing, count-nodup}
+use Rattle.rules.proofs.Size.{sound-bounds}
+use Rattle.rules.proofs.Reading.{good-root, least-some, held-root, held-points, stored-level, stored-entry}
+use Rattle.rules.proofs.Held.{eight-free, not-empty}
+use Rattle.rules.proofs.EmptyTable.{Blank, blank-is-empty}
+pub use Rattle.rules.proofs.EmptyTable.{empty-blank as empty-bare}
 use Rattle.joining.specs.Within.{freeCount}
 use Rattle.joining.specs.Enrol.{inserted, rooted, nextEnrolled, firstEnrolled, enrolled}
 use Rattle.change.proofs.Frame.{times, offGrid}

@@ -17,8 +17,8 @@ use Rattle.table.specs.Slots.{pageAt, levelAt, entriesAt, entryFor}
 use Rattle.table.proofs.Nodes.{shows-on}
 use Rattle.table.specs.Stations.{isPoint}
 use Rattle.table.specs.Tree.{Tree, topOf, entryOfTree, entriesOfTree, slotsOf, leavesOf, Stored}
-use Rattle.audit.proofs.Joined.{all-map, all-then}
-use Rattle.audit.proofs.Reading.{Upright, point, point-upright, Good, good-child, top-inside, entry-reference, entries-upright, entry-upright, childAt, child-in, stored-child, stored-entries}
+use Rattle.rules.proofs.Joined.{all-map, all-then}
+use Rattle.rules.proofs.Reading.{Upright, point, point-upright, Good, good-child, top-inside, entry-reference, entries-upright, entry-upright, childAt, child-in, stored-child, stored-entries}
 use Rattle.change.specs.Choose.{entryIn, chosen}
 use Rattle.joining.specs.declared.enrol.Up.{Up}
 use Rattle.joining.specs.Enrol.{Grown, settled, inserted}

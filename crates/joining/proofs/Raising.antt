@@ -16,14 +16,14 @@ use Rattle.figures.specs.Figures.{LEAST, MOST, SLOTS}
 use Rattle.table.specs.Words.{Words, word, isMinusOne, rootOf, pointsOf}
 use Rattle.table.specs.Page.{page, held, shown, Shows, EntryFits}
 use Rattle.table.specs.Slots.{slots, isFree, levelAt, putPage, lowestFree, entryFor, withRoot, withPoints}
-use Rattle.audit.specs.Rules.{isEmpty}
+use Rattle.rules.specs.Rules.{isEmpty}
 use Rattle.table.specs.Tree.{Tree, topOf, entryOfTree, slotsOf, leavesOf, leastOf}
 use Rattle.table.proofs.Nodes.{shown-page, shows-on}
-use Rattle.audit.proofs.Tests.{and-left, and-right, by-test}
-use Rattle.audit.proofs.Joined.{all-map, all-then}
-use Rattle.audit.proofs.Size.{some-leaf}
-use Rattle.audit.proofs.Reading.{Good, good-root, least-some, held-root, held-points, top-inside, stored-level, stored-entry}
-use Rattle.audit.proofs.WellFormed.{Held, well-formed-tree}
+use Rattle.rules.proofs.Tests.{and-left, and-right, by-test}
+use Rattle.rules.proofs.Joined.{all-map, all-then}
+use Rattle.rules.proofs.Size.{some-leaf}
+use Rattle.rules.proofs.Reading.{Good, good-root, least-some, held-root, held-points, top-inside, stored-level, stored-entry}
+use Rattle.rules.proofs.WellFormed.{Held, well-formed-tree}
 use Rattle.joining.specs.declared.enrol.Up.{Up}
 use Rattle.joining.specs.Enrol.{inserted, rooted, firstEnrolled, nextEnrolled, enrolled}
 use Rattle.joining.specs.Within.{newOf, grew, freeCount, MayInsert, MayRaise, MayGrow, MayEnrol}

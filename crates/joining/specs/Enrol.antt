@@ -10,7 +10,7 @@ use Rattle.figures.specs.Figures.{FAN}
 use Rattle.table.specs.Words.{Words, rootOf, pointsOf}
 use Rattle.table.specs.Page.{page, coverOf}
 use Rattle.table.specs.Slots.{levelAt, entriesAt, putPage, lowestFree, entryFor, withRoot, withPoints}
-use Rattle.audit.specs.Rules.{isEmpty}
+use Rattle.rules.specs.Rules.{isEmpty}
 use Rattle.change.specs.Choose.{entryIn, chosen}
 use Rattle.change.specs.Share.{firstShare, otherShare}
 

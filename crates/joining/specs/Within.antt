@@ -14,7 +14,7 @@ use Rattle.table.specs.Words.{Words}
 use Rattle.table.specs.Page.{held, EntryFits}
 use Rattle.table.specs.Slots.{slots, isFree, lowestFree, entryFor}
 use Rattle.table.specs.Stations.{isPoint}
-use Rattle.audit.specs.Rules.{wellFormed}
+use Rattle.rules.specs.Rules.{wellFormed}
 use Rattle.table.specs.Tree.{Tree, Sound, Holds}
 use Rattle.joining.specs.declared.enrol.Up.{Up}
 use Rattle.joining.specs.declared.enrol.Up.the-variants.{Same, New}

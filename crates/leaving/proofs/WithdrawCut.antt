@@ -16,8 +16,8 @@ use Rattle.table.specs.Page.{page, freeWords, without}
 use Rattle.table.specs.Slots.{entriesAt, putPage, entryFor}
 use Rattle.table.specs.Tree.{Tree, bough, topOf, entryOfTree, slotsOf, leavesOf, leastOf, Filled, Stored}
 use Rattle.table.proofs.Slots.{put-here, put-other}
-use Rattle.audit.proofs.Joined.{all-left, all-right}
-use Rattle.audit.proofs.Reading.{Good, entry-reference, stored-entries, stored-entry}
+use Rattle.rules.proofs.Joined.{all-left, all-right}
+use Rattle.rules.proofs.Reading.{Good, entry-reference, stored-entries, stored-entry}
 use Rattle.change.specs.Choose.{entryIn}
 use Rattle.leaving.specs.Withdraw.{holds, tightAt, joined, lowerPlace, mended, removed}
 use Rattle.change.proofs.Items.{

@@ -16,8 +16,8 @@ use Rattle.table.specs.Page.{page, freeWords, without, blankEntry}
 use Rattle.table.specs.Slots.{entriesAt, putPage, freed, entryFor}
 use Rattle.table.specs.Tree.{Tree, topOf, entryOfTree, slotsOf, leavesOf, Filled, Stored}
 use Rattle.table.proofs.Slots.{put-here, freed-here}
-use Rattle.audit.proofs.Joined.{all-left, all-right}
-use Rattle.audit.proofs.Reading.{stored-entries, stored-entry}
+use Rattle.rules.proofs.Joined.{all-left, all-right}
+use Rattle.rules.proofs.Reading.{stored-entries, stored-entry}
 use Rattle.change.specs.Choose.{entryIn}
 use Rattle.change.specs.Share.{firstShare, otherShare}
 use Rattle.leaving.specs.Withdraw.{tightAt, merged, shared, joined}

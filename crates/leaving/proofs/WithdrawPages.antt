@@ -22,7 +22,7 @@ use Rattle.table.specs.Slots.{pageAt, levelAt, entriesAt, putPage, freed, entry
 use Rattle.table.proofs.Nodes.{page-ext, held-few, shown-page, shows-on}
 use Rattle.table.proofs.Cover.{cover-entry-fits}
 use Rattle.table.proofs.Slots.{put-here, put-other, put-long, freed-other, freed-long, page-back, page-few}
-use Rattle.audit.proofs.Reading.{at-mem}
+use Rattle.rules.proofs.Reading.{at-mem}
 use Rattle.change.specs.Choose.{entryIn}
 use Rattle.change.specs.Share.{lined, firstShare, otherShare}
 use Rattle.leaving.specs.Withdraw.{tightAt, jointAt, sharedOut, merged, shared, joined, lowerPlace, mended, Child, MayShare, Mendable, Joinable}

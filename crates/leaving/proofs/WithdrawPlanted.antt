@@ -17,8 +17,8 @@ use Rattle.table.specs.Page.{page, held, Shows}
 use Rattle.table.specs.Slots.{pageAt, entriesAt}
 use Rattle.table.specs.Tree.{entryOfTree, entriesOfTree, leastOf}
 use Rattle.table.proofs.Slots.{page-few}
-use Rattle.audit.proofs.Joined.{all-map}
-use Rattle.audit.proofs.Reading.{Good, good-child, top-inside, entry-reference, stored-page, stored-child}
+use Rattle.rules.proofs.Joined.{all-map}
+use Rattle.rules.proofs.Reading.{Good, good-child, top-inside, entry-reference, stored-page, stored-child}
 use Rattle.change.specs.Planted.{Planted}
 use Rattle.leaving.specs.Withdraw.{holds}
 use Rattle.change.proofs.Flat.{good-flat}

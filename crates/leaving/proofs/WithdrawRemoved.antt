@@ -19,9 +19,9 @@ use Rattle.grid.specs.Place.{RectOnGrid}
 use Rattle.table.specs.Tree.{Tree, bough, topOf, entryOfTree, entriesOfTree, slotsOf, leavesOf, Filled, Stored}
 use Rattle.table.proofs.Nodes.{shown-page, shows-on}
 use Rattle.table.proofs.Slots.{page-few}
-use Rattle.audit.proofs.Joined.{all-map, all-then, all-left, all-right}
-use Rattle.audit.proofs.Counted.{part-count, count-nodup}
-use Rattle.audit.proofs.Reading.{
+use Rattle.rules.proofs.Joined.{all-map, all-then, all-left, all-right}
+use Rattle.rules.proofs.Counted.{part-count, count-nodup}
+use Rattle.rules.proofs.Reading.{
   Good,
   top-inside,
   entry-reference,

@@ -19,10 +19,10 @@ use Rattle.table.specs.Slots.{levelAt, entriesAt, freed, withPoints}
 use Rattle.table.specs.Stations.{stations, stationOfEntry}
 use Rattle.table.specs.Tree.{topOf, leavesOf, leastOf}
 use Rattle.table.proofs.Slots.{freed-long}
-use Rattle.audit.proofs.Held.{held-stations}
-use Rattle.audit.proofs.Reading.{good-root, least-some, stored-level, held-root, held-points}
-use Rattle.audit.proofs.Size.{some-leaf}
-use Rattle.audit.proofs.WellFormed.{Held, well-formed-means, empty-stations}
+use Rattle.rules.proofs.Held.{held-stations}
+use Rattle.rules.proofs.Reading.{good-root, least-some, stored-level, held-root, held-points}
+use Rattle.rules.proofs.Size.{some-leaf}
+use Rattle.rules.proofs.WellFormed.{Held, well-formed-means, empty-stations}
 use Rattle.change.specs.Choose.{entryIn}
 use Rattle.change.specs.Planted.{Planted}
 use Rattle.leaving.specs.Withdraw.{holds, removed, emptied, givenWay, lowered, withdrawn, Removable, Lowerable, MayWithdraw}

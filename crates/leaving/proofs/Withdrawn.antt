@@ -22,11 +22,11 @@ use Rattle.table.specs.Empty.{emptyTable}
 use Rattle.table.specs.Slots.{levelAt, entriesAt, freed, withPoints}
 use Rattle.table.specs.Tree.{Tree, topOf, entryOfTree, entriesOfTree, slotsOf, leavesOf, leastOf, Filled, Stored, Sound, Holds}
 use Rattle.table.proofs.Slots.{header-part, freed-here, freed-other, freed-long}
-use Rattle.audit.proofs.Joined.{all-map}
-use Rattle.audit.proofs.Counted.{number-missing, number-counted}
-use Rattle.audit.proofs.EmptyTable.{blank-empty}
-use Rattle.audit.proofs.Size.{some-leaf}
-use Rattle.audit.proofs.Reading.{Good, good-root, good-child, top-inside, entry-reference, stored-entries, stored-level, stored-child, stored-frame, held-root, held-points}
+use Rattle.rules.proofs.Joined.{all-map}
+use Rattle.rules.proofs.Counted.{number-missing, number-counted}
+use Rattle.rules.proofs.EmptyTable.{blank-empty}
+use Rattle.rules.proofs.Size.{some-leaf}
+use Rattle.rules.proofs.Reading.{Good, good-root, good-child, top-inside, entry-reference, stored-entries, stored-level, stored-child, stored-frame, held-root, held-points}
 use Rattle.change.specs.Choose.{entryIn}
 use Rattle.leaving.specs.Withdraw.{holds, removed, emptied, givenWay, lowered, withdrawn, Lowerable}
 use Rattle.change.proofs.Counts.{counts-perm}

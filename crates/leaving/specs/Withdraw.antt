@@ -16,7 +16,7 @@ use Rattle.table.specs.declared.node.Node.{Node}
 use Rattle.table.specs.Page.{Page, page, held, EntryFits, PageFits, without}
 use Rattle.table.specs.Slots.{levelAt, entriesAt, putPage, freed, entryFor, withRoot, withPoints}
 use Rattle.table.specs.Stations.{stations}
-use Rattle.audit.specs.Rules.{wellFormed}
+use Rattle.rules.specs.Rules.{wellFormed}
 use Rattle.change.specs.Choose.{entryIn}
 use Rattle.change.specs.Share.{firstShare, otherShare}
 use Rattle.change.specs.Planted.{Planted}

@@ -3,8 +3,8 @@ use mathlib.Core.Path.{_≡_, refl}
 use lib.ListN.{length}
 use Rattle.table.specs.Empty.{emptyTable}
 use Rattle.table.specs.Words.{Words}
-use Rattle.audit.proofs.EmptyTable.{empty-blank}
-use Rattle.audit.proofs.WellFormed.{empty-well-formed}
+use Rattle.rules.proofs.EmptyTable.{empty-blank}
+use Rattle.rules.proofs.WellFormed.{empty-well-formed}
 use Rattle.slip.specs.Output.{decimal, headOf, outputLine}
 use Rattle.clerk.specs.Sheet.{tooLongLine}
 use Rattle.clerk.specs.Running.{Passes}

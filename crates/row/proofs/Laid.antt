@@ -6,7 +6,7 @@ use mathlib.Core.List.{List, [], _∷_, _++_, map, map-append}
 use lib.ListN.{length, set, length-map}
 use Rattle.order.specs.Order.{upFrom}
 use Rattle.order.proofs.Order.{up-length}
-use Rattle.audit.proofs.Counted.{up-append}
+use Rattle.rules.proofs.Counted.{up-append}
 use Rattle.filter.specs.Query.{laidOver}
 use Rattle.filter.specs.Rows.{Rows}
 use Rattle.filter.proofs.Rows.{laid-set}

@@ -26,12 +26,12 @@ use Rattle.table.specs.Words.{Words, word, isMinusOne, pointsOf}
 use Rattle.table.specs.Page.{blankEntry}
 use Rattle.table.specs.Slots.{slots, isFree}
 use Rattle.table.specs.Stations.{stations, isPoint, stationOfEntry}
-use Rattle.audit.specs.Rules.{isEmpty}
+use Rattle.rules.specs.Rules.{isEmpty}
 use Rattle.table.proofs.Nodes.{entry-ext}
-use Rattle.audit.proofs.Tests.{by-test, and-left, and-right}
-use Rattle.audit.proofs.Joined.{all-then}
-use Rattle.audit.proofs.Reading.{point, point-spot, held-points}
-use Rattle.audit.proofs.WellFormed.{well-formed-tree}
+use Rattle.rules.proofs.Tests.{by-test, and-left, and-right}
+use Rattle.rules.proofs.Joined.{all-then}
+use Rattle.rules.proofs.Reading.{point, point-spot, held-points}
+use Rattle.rules.proofs.WellFormed.{well-formed-tree}
 use Rattle.filter.specs.declared.seen.Seen.{Seen}
 use Rattle.filter.specs.Meaning.{answersTo, rising}
 use Rattle.filter.specs.Walk.{spotIn}

@@ -13,7 +13,7 @@ use Rattle.table.specs.declared.node.Entry.{Entry}
 use Rattle.figures.specs.Figures.{LENGTH}
 use Rattle.table.specs.Words.{Words}
 use Rattle.table.specs.Stations.{isPoint}
-use Rattle.audit.specs.Rules.{wellFormed}
+use Rattle.rules.specs.Rules.{wellFormed}
 use Rattle.filter.specs.Test.{passes}
 use Rattle.row.specs.declared.record.Candidate.{Candidate}
 use Rattle.row.specs.Records.{none}

@@ -17,7 +17,7 @@ use Rattle.table.specs.Words.{Words, rootOf, partAt, placed}
 use Rattle.table.specs.Page.{page, entryOf, pageOf, entryWords, entriesWords, pageWords, freeWords, coverOf}
 use Rattle.table.specs.Slots.{isFree, pageAt, putPage, lowestFree, entryFor}
 use Rattle.table.specs.Stations.{Station, stations, stationOfEntry}
-use Rattle.audit.specs.Rules.{isEmpty}
+use Rattle.rules.specs.Rules.{isEmpty}
 use Rattle.table.specs.Empty.{emptyTable, freeSlots}
 use Rattle.change.specs.Choose.{takesBefore, chosen}
 use Rattle.change.specs.Share.{lined, firstShare, otherShare}

@@ -12,9 +12,9 @@ use Rattle.table.specs.declared.given.Given.the-variants.{Done, NotWellFormed}
 use Rattle.figures.specs.Figures.{LENGTH}
 use Rattle.table.specs.Words.{Words}
 use Rattle.table.specs.Slots.{slots}
-use Rattle.audit.specs.Rules.{rule1, rule2, rule3, rule4, rule5, rule6, rule7, rule7Header, wellFormed}
+use Rattle.rules.specs.Rules.{rule1, rule2, rule3, rule4, rule5, rule6, rule7, rule7Header, wellFormed}
+use Rattle.rules.proofs.Tests.{all-every}
 use Rattle.audit.specs.Check.{checkGives}
-use Rattle.audit.proofs.Tests.{all-every}
 use Rattle.audit.proofs.Every.{element-fails, failed, passed}
 use borrow.Author.Needs.{needs}
 use Rattle.audit.proofs.check.Statement.{statement}

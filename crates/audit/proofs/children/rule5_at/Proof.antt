@@ -3,7 +3,7 @@ use Prim.Native.Nat.{_-_}
 use mathlib.Core.Path.{sym}
 use native.Mathlib.Omega.{arith}
 use Rattle.table.specs.Page.{blankEntry}
-use Rattle.audit.specs.Rules.{isChild, rule5}
+use Rattle.rules.specs.Rules.{isChild, rule5}
 use Rattle.table.proofs.Slots.{page-few}
 use Rattle.audit.proofs.Every.{Tested, testAt, none-tested, one-tested, failed, passed}
 use Rattle.audit.proofs.Entries.{entry-fails, entries-pass}

@@ -8,7 +8,7 @@ use Rattle.table.specs.declared.node.Entry.{Entry}
 use Rattle.table.specs.Words.{Words}
 use Rattle.table.specs.Page.{coverOf, blankEntry}
 use Rattle.table.specs.Slots.{entriesAt, entryFor}
-use Rattle.audit.specs.Rules.{sameRect, rule6}
+use Rattle.rules.specs.Rules.{sameRect, rule6}
 use Rattle.table.proofs.Slots.{page-few}
 use Rattle.audit.proofs.Every.{Tested, testAt, none-tested, one-tested, failed, passed}
 use Rattle.audit.proofs.Entries.{entry-fails, entries-pass, child-inside}

@@ -4,7 +4,7 @@ use mathlib.Core.Bool.{true, false}
 use borrow.Author.Tests.{eq-eqb, ne-eqb}
 use Rattle.axis.specs.Word.{stepsOf}
 use Rattle.table.specs.Words.{word, isMinusOne, pointsOf}
-use Rattle.audit.specs.Rules.{isEmpty}
+use Rattle.rules.specs.Rules.{isEmpty}
 use Rattle.table.proofs.Parts.{none-steps}
 use borrow.Author.Needs.{needs}
 use Rattle.audit.proofs.header.is_empty.Statement.{statement}

@@ -5,7 +5,7 @@ use borrow.Author.Tests.{lt-ltb, le-ltb, le-leb, lt-leb}
 use Rattle.figures.specs.Figures.{SLOTS, MOST}
 use Rattle.table.specs.Words.{rootOf, between}
 use Rattle.table.specs.Slots.{isFree}
-use Rattle.audit.specs.Rules.{isEmpty, rule2}
+use Rattle.rules.specs.Rules.{isEmpty, rule2}
 use native.Mathlib.Omega.{arith}
 use borrow.Author.Needs.{needs}
 use Rattle.audit.proofs.header.rule2_holds.Statement.{statement}

@@ -9,8 +9,8 @@ use Rattle.figures.specs.Figures.{HIGHEST}
 use Rattle.table.specs.Page.{held, blankEntry}
 use Rattle.table.specs.Stations.{isPoint}
 use Rattle.table.proofs.Nodes.{full}
+use Rattle.rules.proofs.Tests.{every-all}
 use Rattle.audit.specs.Seen.{refsOf, Marks, Entered}
-use Rattle.audit.proofs.Tests.{every-all}
 use Rattle.audit.proofs.Entries.{refs-more, refs-split, held-at, number-low}
 use Rattle.audit.proofs.Marked.{none-entered, one-entered, met-again}
 use Rattle.audit.proofs.numbers.mark.Statement.{statement}

@@ -8,7 +8,7 @@ use Rattle.order.specs.Lists.{every, join}
 use Rattle.order.specs.Order.{upFrom}
 use Rattle.table.specs.Slots.{levelAt, entriesAt}
 use Rattle.table.specs.Stations.{isPoint}
-use Rattle.audit.specs.Rules.{numbersAt, rule4}
+use Rattle.rules.specs.Rules.{numbersAt, rule4}
 use Rattle.table.proofs.Slots.{page-few}
 use Rattle.audit.specs.Seen.{refsOf, Entered}
 use Rattle.audit.proofs.Every.{failed, passed}

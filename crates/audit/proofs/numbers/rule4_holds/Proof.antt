@@ -6,7 +6,7 @@ use borrow.Author.Tests.{not-false}
 use Rattle.order.specs.Lists.{join}
 use Rattle.order.specs.Order.{upFrom}
 use Rattle.figures.specs.Figures.{SLOTS}
-use Rattle.audit.specs.Rules.{numbersAt, rule4}
+use Rattle.rules.specs.Rules.{numbersAt, rule4}
 use Rattle.audit.specs.Seen.{Marks}
 use Rattle.audit.proofs.Every.{Tested, none-tested, one-tested, failed, passed, one-fails, all-pass}
 use Rattle.audit.proofs.Marked.{none-marked}

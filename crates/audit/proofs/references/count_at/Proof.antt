@@ -7,7 +7,7 @@ use mathlib.Core.List.{_++_, append-nil}
 use Rattle.order.specs.Lists.{join, All}
 use Rattle.order.specs.Order.{upFrom}
 use Rattle.figures.specs.Figures.{SLOTS}
-use Rattle.audit.specs.Rules.{isAbove, refsAt}
+use Rattle.rules.specs.Rules.{isAbove, refsAt}
 use Rattle.table.proofs.Slots.{page-few}
 use Rattle.audit.specs.Seen.{refsOf, Tally}
 use Rattle.audit.proofs.Entries.{children-inside}

@@ -6,7 +6,7 @@ use native.Mathlib.Omega.{arith}
 use lib.Dec.{eqb}
 use Rattle.table.specs.Words.{rootOf}
 use Rattle.table.specs.Slots.{isFree}
-use Rattle.audit.specs.Rules.{rule7}
+use Rattle.rules.specs.Rules.{rule7}
 use borrow.Author.Needs.{needs}
 use Rattle.audit.proofs.references.rule7_at.Statement.{statement}
 use Rattle.audit.proofs.references.rule7_at.Tie as tie

@@ -11,9 +11,9 @@ use Rattle.figures.specs.Figures.{SLOTS}
 use Rattle.table.specs.Words.{pointsOf}
 use Rattle.table.specs.Slots.{slots}
 use Rattle.table.specs.Stations.{stations}
-use Rattle.audit.specs.Rules.{refsAt, rule5, rule7, rule7Header}
+use Rattle.rules.specs.Rules.{refsAt, rule5, rule7, rule7Header}
+use Rattle.rules.proofs.Counted.{every-below}
 use Rattle.audit.specs.Seen.{Tally}
-use Rattle.audit.proofs.Counted.{every-below}
 use Rattle.audit.proofs.Tallied.{none-tallied}
 use Rattle.audit.proofs.references.rule7_holds.Statement.{statement}
 use Rattle.audit.proofs.references.rule7_holds.Tie as tie

@@ -6,7 +6,7 @@ use mathlib.Core.Bool.{true, false}
 use Rattle.figures.specs.Figures.{WIDTH}
 use Rattle.table.specs.Words.{word, isMinusOne, startOf, partAt}
 use Rattle.table.specs.Page.{filled}
-use Rattle.audit.specs.Rules.{rule1}
+use Rattle.rules.specs.Rules.{rule1}
 use Rattle.table.proofs.Parts.{lent-part}
 use borrow.Author.Needs.{needs}
 use Rattle.audit.proofs.shape.rule1_at.Statement.{statement}

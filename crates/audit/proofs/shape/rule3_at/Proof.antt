@@ -8,7 +8,7 @@ use Rattle.axis.specs.Word.{natOf}
 use Rattle.figures.specs.Figures.{FAN}
 use Rattle.table.specs.Words.{Words, word, startOf, partAt, between}
 use Rattle.table.specs.Slots.{isFree}
-use Rattle.audit.specs.Rules.{rule3}
+use Rattle.rules.specs.Rules.{rule3}
 use Rattle.table.proofs.Slots.{word-at}
 use Rattle.audit.proofs.Words.{right-natural, left-negative}
 use borrow.Author.Needs.{needs}

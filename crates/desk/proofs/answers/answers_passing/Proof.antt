@@ -46,7 +46,7 @@ use denote.Triple.Walked.{says, needs, Stays, gave-slice, stay-none-slice, stay-
 use denote.Exit.{yes}
 use Rattle.grid.specs.Site.{Site}
 use Rattle.figures.specs.Figures.{LENGTH}
-use Rattle.audit.specs.Rules.{wellFormed}
+use Rattle.rules.specs.Rules.{wellFormed}
 use Rattle.row.specs.declared.record.Candidate.{Candidate}
 use Rattle.row.proofs.record.Candidate as C′
 use Rattle.row.proofs.record.Candidate.Laws as C″

@@ -66,7 +66,7 @@ use Rattle.desk.proofs.query.refused.Symbol.{name as #desk·query·refu
 use Rattle.desk.proofs.query.refused.Met as refused-thm
 use Rattle.audit.specs.Check.{checkGives}
 use Rattle.figures.specs.Figures.{LENGTH}
-use Rattle.audit.specs.Rules.{wellFormed}
+use Rattle.rules.specs.Rules.{wellFormed}
 use Rattle.desk.proofs.CallOrder.{passes}
 use Rattle.audit.proofs.check as check
 use Rattle.audit.proofs.check.Symbol as check-def

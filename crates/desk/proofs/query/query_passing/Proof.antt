@@ -68,7 +68,7 @@ use Rattle.axis.specs.Word.{IsWord, natOf}
 use Rattle.order.specs.Lists.{All}
 use Rattle.table.specs.declared.given.Given.the-variants.{Done}
 use Rattle.figures.specs.Figures.{LENGTH}
-use Rattle.audit.specs.Rules.{wellFormed}
+use Rattle.rules.specs.Rules.{wellFormed}
 use Rattle.row.specs.declared.answer.Reply.{Reply}
 use Rattle.row.proofs.answer.Reply as P
 use Rattle.row.proofs.answer.Reply.Laws as P′

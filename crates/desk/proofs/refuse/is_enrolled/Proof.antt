@@ -7,7 +7,7 @@ use borrow.Author.Count.{below-none, below-more}
 use Rattle.axis.proofs.Machine.{natural-passed}
 use Rattle.order.specs.Lists.{has}
 use Rattle.figures.specs.Figures.{SLOTS}
-use Rattle.audit.specs.Rules.{numbersAt}
+use Rattle.rules.specs.Rules.{numbersAt}
 use Rattle.desk.specs.Refusals.{numbersOf}
 use Rattle.desk.proofs.CallNumbers.{found-in, found-in-none}
 use Rattle.desk.proofs.refuse.is_enrolled.Statement.{statement}

@@ -3,7 +3,7 @@ use native.Mathlib.Omega.{arith}
 use mathlib.Core.Path.{ap}
 use lib.ListN.{set}
 use borrow.Author.Needs.{needs}
-use Rattle.audit.proofs.Reading.{point}
+use Rattle.rules.proofs.Reading.{point}
 use Rattle.filter.proofs.candidate.note.Statement.{statement}
 use Rattle.filter.proofs.candidate.note.Tie as tie
 

@@ -1,7 +1,7 @@
 -- `filter::candidate::visit` meets its contract: the test of the code is that of the walk, and the rows take one more record where it fails. Assumes nothing.
 use native.Mathlib.Omega.{arith}
 use borrow.Author.Needs.{needs}
-use Rattle.audit.proofs.Reading.{point}
+use Rattle.rules.proofs.Reading.{point}
 use Rattle.filter.specs.Rows.{rows}
 use Rattle.filter.proofs.Visits.{kept-grid, visit-hidden, visit-room, visit-new}
 use Rattle.filter.proofs.candidate.visit.Statement.{statement}

@@ -1,6 +1,6 @@
 -- `filter::test::is_other_nearer` meets its contract: each way out has one side of the test. Assumes nothing.
 use borrow.Author.Tests.{eq-eqb, ne-eqb}
-use Rattle.audit.proofs.Reading.{point}
+use Rattle.rules.proofs.Reading.{point}
 use Rattle.filter.specs.Test.{otherNearer}
 use borrow.Author.Needs.{needs}
 use Rattle.filter.proofs.test.is_other_nearer.Statement.{statement}

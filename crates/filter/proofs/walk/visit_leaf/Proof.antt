@@ -9,8 +9,8 @@ use Rattle.grid.specs.Place.{RectOnGrid}
 use Rattle.table.specs.Slots.{entriesAt}
 use Rattle.table.specs.Stations.{isPoint}
 use Rattle.table.proofs.Slots.{page-few}
-use Rattle.audit.proofs.Joined.{all-then}
-use Rattle.audit.proofs.Reading.{point, point-upright}
+use Rattle.rules.proofs.Joined.{all-then}
+use Rattle.rules.proofs.Reading.{point, point-upright}
 use Rattle.filter.specs.Walk.{each, nearestFirst, visited}
 use Rattle.filter.specs.Rows.{rows, foundIn, Noted}
 use Rattle.filter.proofs.Visits.{noted-same}

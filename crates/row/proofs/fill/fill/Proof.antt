@@ -53,7 +53,7 @@ use Rattle.grid.proofs.Site.{SiteOnGrid}
 use Rattle.order.specs.Lists.{All}
 use Rattle.figures.specs.Figures.{LENGTH}
 use Rattle.table.specs.Words.{pointsOf}
-use Rattle.audit.specs.Rules.{wellFormed}
+use Rattle.rules.specs.Rules.{wellFormed}
 use Rattle.filter.specs.declared.seen.Seen.{Seen}
 use Rattle.filter.specs.Query.{found, laidOver}
 use Rattle.filter.specs.Rows.{rows, Room as Rooms, Noted}

@@ -6,7 +6,7 @@ use mathlib.Core.Bool.{Bool}
 use borrow.Author.Tests.{not-true, not-false}
 use Rattle.grid.specs.declared.place.Place.{Place}
 use Rattle.table.specs.Words.{Words}
-use Rattle.audit.proofs.Reading.{point}
+use Rattle.rules.proofs.Reading.{point}
 use Rattle.filter.specs.Test.{passes}
 use Rattle.row.specs.declared.record.Candidate.{Candidate}
 use Rattle.row.specs.Tested.{placeOf, entryOf, passesAs}

@@ -6,7 +6,7 @@ use Rattle.grid.specs.declared.place.Place.{Place}
 use Rattle.grid.specs.Nearer.{nearer}
 use Rattle.grid.specs.Place.{dist²}
 use Rattle.order.specs.Lists.{one}
-use Rattle.audit.proofs.Reading.{point}
+use Rattle.rules.proofs.Reading.{point}
 use Rattle.row.specs.Tested.{placeOf, entryOf, nearerAs}
 use Rattle.row.proofs.near.nearer_one.Statement.{statement}
 use Rattle.row.proofs.near.nearer_one.Tie as tie

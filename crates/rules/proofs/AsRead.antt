@@ -10,11 +10,11 @@ use Rattle.order.proofs.Lists.{join-append, all-mem, mem-all}
 use Rattle.table.specs.declared.node.Entry.{Entry}
 use Rattle.table.specs.Words.{Words}
 use Rattle.table.specs.Slots.{entriesAt}
-use Rattle.audit.specs.Rules.{leafEntries, refsAt}
+use Rattle.rules.specs.Rules.{leafEntries, refsAt}
 use Rattle.table.specs.Tree.{Tree, bough, topOf, entryOfTree, entriesOfTree, slotsOf, leavesOf, Stored}
-use Rattle.audit.proofs.Joined.{join-mem, join-join, join-same}
-use Rattle.audit.proofs.Reading.{Good, good-child, top-inside, entry-reference, stored-child, stored-used, stored-level, stored-entries}
-use Rattle.audit.proofs.OneSlot.{Here, leaf-leaf, leaf-above, above-leaf, above-above}
+use Rattle.rules.proofs.Joined.{join-mem, join-join, join-same}
+use Rattle.rules.proofs.Reading.{Good, good-child, top-inside, entry-reference, stored-child, stored-used, stored-level, stored-entries}
+use Rattle.rules.proofs.OneSlot.{Here, leaf-leaf, leaf-above, above-leaf, above-above}
 
 -- one node: the slot is of the level and has the entries
 pub record Node (ws : Words) (l s : ℕ) (es : List Entry) : Type 0 where

@@ -11,14 +11,14 @@ use Rattle.figures.specs.Figures.{LENGTH}
 use Rattle.table.specs.Words.{Words}
 use Rattle.table.specs.Stations.{stations}
 use Rattle.table.specs.Empty.{emptyTable}
-use Rattle.audit.specs.Rules.{isEmpty, wellFormed}
+use Rattle.rules.specs.Rules.{isEmpty, wellFormed}
 use Rattle.table.specs.Tree.{Tree, Sound, Holds}
-use Rattle.audit.proofs.Tests.{by-test}
-use Rattle.audit.proofs.Decoded.{rootLevel, wholeTree, decoded-sound, decoded-holds}
-use Rattle.audit.proofs.Passed.{passed, passing}
-use Rattle.audit.proofs.FromRules.{ruled}
-use Rattle.audit.proofs.EmptyTable.{blank-empty, empty-blank, blank-is-empty, blank-fits, blank-passed, blank-stations, passed-blank}
-use Rattle.audit.proofs.ToRules.{held-passed}
+use Rattle.rules.proofs.Tests.{by-test}
+use Rattle.rules.proofs.Decoded.{rootLevel, wholeTree, decoded-sound, decoded-holds}
+use Rattle.rules.proofs.Passed.{passed, passing}
+use Rattle.rules.proofs.FromRules.{ruled}
+use Rattle.rules.proofs.EmptyTable.{blank-empty, empty-blank, blank-is-empty, blank-fits, blank-passed, blank-stations, passed-blank}
+use Rattle.rules.proofs.ToRules.{held-passed}
 
 -- a sound tree that the table holds
 pub record Held (ws : Words) : Type 0 where

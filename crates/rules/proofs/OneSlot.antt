@@ -15,9 +15,9 @@ use Rattle.table.specs.Words.{Words, word, isMinusOne, rootOf, partAt}
 use Rattle.table.specs.Page.{pageOf}
 use Rattle.table.specs.Slots.{isFree, pageAt, levelAt, entriesAt}
 use Rattle.table.specs.Stations.{isLeaf}
-use Rattle.audit.specs.Rules.{isRoot, leastFill, leafEntries, isAbove, entriesAbove}
+use Rattle.rules.specs.Rules.{isRoot, leastFill, leafEntries, isAbove, entriesAbove}
 use Rattle.table.specs.Tree.{leastOf}
-use Rattle.audit.proofs.Tests.{or-false}
+use Rattle.rules.proofs.Tests.{or-false}
 
 -- a used slot of a level
 pub record Here (ws : Words) (l s : ℕ) : Type 0 where

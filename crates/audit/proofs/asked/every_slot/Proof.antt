@@ -5,8 +5,8 @@ use mathlib.Core.Path.{sym}
 use Rattle.figures.specs.Figures.{SLOTS}
 use Rattle.audit.specs.Asked.{ruleAt}
 use Rattle.audit.proofs.Every.{Tested, none-tested, one-tested, failed, passed, one-fails, all-pass}
-use Rattle.audit.proofs.rules.every_slot.Statement.{statement}
-use Rattle.audit.proofs.rules.every_slot.Tie as tie
+use Rattle.audit.proofs.asked.every_slot.Statement.{statement}
+use Rattle.audit.proofs.asked.every_slot.Tie as tie
 
 abbrev Inv-loop : tie.InvT-loop
 Inv-loop table rule times slot₀ slot = Tested (ruleAt rule table) SLOTS slot

@@ -13,7 +13,7 @@ use Rattle.order.specs.Lists.{one, count, filter, every, join, Mem, NoDup}
 use Rattle.order.specs.Order.{upFrom}
 use Rattle.order.proofs.Lists.{by-bool, count-append, mem-count, count-mem, filter-mem, length-filter, mem-all}
 use Rattle.order.proofs.Order.{up-all, mem-up}
-use Rattle.audit.proofs.Tests.{every-all, all-every}
+use Rattle.rules.proofs.Tests.{every-all, all-every}
 
 -- ---- a number in a list
 

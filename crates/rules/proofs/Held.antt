@@ -18,20 +18,20 @@ use Rattle.table.specs.Words.{Words, isMinusOne, pointsOf, partAt}
 use Rattle.table.specs.Page.{Page, page, pageWords, freeWords}
 use Rattle.table.specs.Slots.{slots, isFree, lowestFree}
 use Rattle.table.specs.Stations.{stationOfEntry, stations}
-use Rattle.audit.specs.Rules.{isEmpty}
+use Rattle.rules.specs.Rules.{isEmpty}
 use Rattle.table.specs.Tree.{Tree, entriesOfTree, slotsOf, leavesOf, leastOf, Sound, Holds}
 use Rattle.table.proofs.Slots.{free-part-free, lowest-least}
-use Rattle.audit.proofs.Tests.{by-test}
-use Rattle.audit.proofs.Joined.{all-join}
-use Rattle.audit.proofs.Counted.{number-in, up-mem}
-use Rattle.audit.proofs.Size.{sound-bounds}
-use Rattle.audit.proofs.Reading.{good-root, page-fits, stored-part, held-points, top-inside}
-use Rattle.audit.proofs.AsRead.{read-good, read-slot}
-use Rattle.audit.proofs.Complete.{Complete, leaves-perm, free-count}
-use Rattle.audit.proofs.Subtrees.{Subtree, subtree}
-use Rattle.audit.proofs.PartWords.{free-fits, page-words-fit}
-use Rattle.audit.proofs.EmptyTable.{table-parts}
-use Rattle.audit.proofs.Enrolled.{stations-length, stations-leaves}
+use Rattle.rules.proofs.Tests.{by-test}
+use Rattle.rules.proofs.Joined.{all-join}
+use Rattle.rules.proofs.Counted.{number-in, up-mem}
+use Rattle.rules.proofs.Size.{sound-bounds}
+use Rattle.rules.proofs.Reading.{good-root, page-fits, stored-part, held-points, top-inside}
+use Rattle.rules.proofs.AsRead.{read-good, read-slot}
+use Rattle.rules.proofs.Complete.{Complete, leaves-perm, free-count}
+use Rattle.rules.proofs.Subtrees.{Subtree, subtree}
+use Rattle.rules.proofs.PartWords.{free-fits, page-words-fit}
+use Rattle.rules.proofs.EmptyTable.{table-parts}
+use Rattle.rules.proofs.Enrolled.{stations-length, stations-leaves}
 
 -- ---- the lowest free slot
 

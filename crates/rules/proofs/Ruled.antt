@@ -13,9 +13,9 @@ use Rattle.figures.specs.Figures.{FAN, MOST, SLOTS, LENGTH}
 use Rattle.table.specs.Words.{Words, word, rootOf, pointsOf, partAt}
 use Rattle.table.specs.Page.{pageWords, freeWords, coverOf}
 use Rattle.table.specs.Slots.{slots, isFree, pageAt, levelAt, entriesAt}
-use Rattle.audit.specs.Rules.{isRoot, leastFill, leafEntries, numbersAt, entriesAbove, timesReferred}
+use Rattle.rules.specs.Rules.{isRoot, leastFill, leafEntries, numbersAt, entriesAbove, timesReferred}
 use Rattle.table.specs.Stations.{isPoint}
-use Rattle.audit.proofs.OneSlot.{Here, above-above}
+use Rattle.rules.proofs.OneSlot.{Here, above-above}
 
 -- rule 5, of an entry of slot s
 pub record Child (ws : Words) (s : ℕ) (e : Entry) : Type 0 where

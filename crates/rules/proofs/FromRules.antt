@@ -14,17 +14,17 @@ use Rattle.figures.specs.Figures.{SLOTS, WIDTH, LENGTH}
 use Rattle.table.specs.Words.{Words, word, startOf, partAt}
 use Rattle.table.specs.Page.{pageOf, pageWords, freeWords}
 use Rattle.table.specs.Slots.{isFree, pageAt, levelAt, entriesAt}
-use Rattle.audit.specs.Rules.{isNatural, isEmpty, numbersAt}
+use Rattle.rules.specs.Rules.{isNatural, isEmpty, numbersAt}
 use Rattle.table.specs.Stations.{isPoint}
 use Rattle.table.proofs.Slots.{part-length, entries-count}
-use Rattle.audit.proofs.Joined.{all-then}
-use Rattle.audit.proofs.Reading.{point}
-use Rattle.audit.proofs.OneSlot.{Here, free-word, leaf-leaf, above-above}
-use Rattle.audit.proofs.Ruled.{Child, Ruled}
-use Rattle.audit.proofs.PartWords.{free-part, page-part}
-use Rattle.audit.proofs.EachRule.{free-rest, used-rest, Rule2, rule2-fact, Rule3, rule3-fact, points-fact, new-fact, rule5-fact, rule6-fact, rule7-fact, header-fact}
-use Rattle.audit.proofs.EachNew.{all-new}
-use Rattle.audit.proofs.Passed.{Passed}
+use Rattle.rules.proofs.Joined.{all-then}
+use Rattle.rules.proofs.Reading.{point}
+use Rattle.rules.proofs.OneSlot.{Here, free-word, leaf-leaf, above-above}
+use Rattle.rules.proofs.Ruled.{Child, Ruled}
+use Rattle.rules.proofs.PartWords.{free-part, page-part}
+use Rattle.rules.proofs.EachRule.{free-rest, used-rest, Rule2, rule2-fact, Rule3, rule3-fact, points-fact, new-fact, rule5-fact, rule6-fact, rule7-fact, header-fact}
+use Rattle.rules.proofs.EachNew.{all-new}
+use Rattle.rules.proofs.Passed.{Passed}
 
 pub part-fits : (ws : Words) → All IsWord ws → (s : ℕ) → All IsWord (partAt ws s)
 unfolding partAt

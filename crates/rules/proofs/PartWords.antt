@@ -19,9 +19,9 @@ use Rattle.table.specs.declared.node.Entry.{Entry}
 use Rattle.figures.specs.Figures.{FAN, ENTRY, WIDTH}
 use Rattle.table.specs.Words.{Words, word, isZero}
 use Rattle.table.specs.Page.{Page, entryOf, filled, pageOf, entryWords, entriesWords, pageWords, freeWords, EntryFits, PageFits}
-use Rattle.audit.specs.Rules.{isNatural, usedWords}
+use Rattle.rules.specs.Rules.{isNatural, usedWords}
 use Rattle.table.proofs.Slots.{entries-length}
-use Rattle.audit.proofs.Tests.{and-left, and-right}
+use Rattle.rules.proofs.Tests.{and-left, and-right}
 
 -- ---- zeros
 

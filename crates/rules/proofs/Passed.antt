@@ -6,9 +6,9 @@ use Rattle.order.specs.Lists.{every}
 use Rattle.figures.specs.Figures.{SLOTS}
 use Rattle.table.specs.Words.{Words}
 use Rattle.table.specs.Slots.{slots}
-use Rattle.audit.specs.Rules.{rule1, rule2, rule3, rule4, rule5, rule6, rule7, rule7Header, wellFormed}
-use Rattle.audit.proofs.Tests.{and-left, and-right, both-true}
-use Rattle.audit.proofs.Counted.{every-below, below-every}
+use Rattle.rules.specs.Rules.{rule1, rule2, rule3, rule4, rule5, rule6, rule7, rule7Header, wellFormed}
+use Rattle.rules.proofs.Tests.{and-left, and-right, both-true}
+use Rattle.rules.proofs.Counted.{every-below, below-every}
 
 pub record Passed (ws : Words) : Type 0 where
   pub one : (s : ℕ) → s < SLOTS → rule1 ws s ≡ true

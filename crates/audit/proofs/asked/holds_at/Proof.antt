@@ -3,11 +3,11 @@ use native.Mathlib.Omega.{arith}
 use mathlib.Core.Path.{subst}
 use borrow.Author.Needs.{needs}
 use Rattle.figures.specs.Figures.{SLOTS}
-use Rattle.audit.specs.Rules.{rule5}
+use Rattle.rules.specs.Rules.{rule5}
+use Rattle.rules.proofs.Counted.{every-below}
 use Rattle.audit.specs.Asked.{Before}
-use Rattle.audit.proofs.Counted.{every-below}
-use Rattle.audit.proofs.rules.holds_at.Statement.{statement}
-use Rattle.audit.proofs.rules.holds_at.Tie as tie
+use Rattle.audit.proofs.asked.holds_at.Statement.{statement}
+use Rattle.audit.proofs.asked.holds_at.Tie as tie
 
 enum-told : tie.Need-enum-told
 enum-told c = search needs

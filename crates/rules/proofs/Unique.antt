@@ -17,7 +17,7 @@ use Rattle.table.specs.Words.{Words, partAt}
 use Rattle.table.specs.Page.{page, entryWords, entriesWords, pageWords}
 use Rattle.table.specs.Tree.{Tree, topOf, entryOfTree, entriesOfTree, Stored, Holds}
 use Rattle.table.proofs.Nodes.{entry-ext}
-use Rattle.audit.proofs.Reading.{entry-reference, stored-part}
+use Rattle.rules.proofs.Reading.{entry-reference, stored-part}
 
 -- ---- words
 

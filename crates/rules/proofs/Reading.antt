@@ -26,9 +26,9 @@ use Rattle.table.specs.Stations.{spanIsSpot, isPoint}
 use Rattle.table.specs.Tree.{Tree, bough, topOf, entryOfTree, entriesOfTree, slotsOf, leavesOf, Filled, leastOf, Stored, Sound, Holds}
 use Rattle.table.proofs.Cover.{cover-closed}
 use Rattle.table.proofs.Slots.{page-back, page-part-used}
-use Rattle.audit.proofs.Tests.{and-left, and-right, between-true}
-use Rattle.audit.proofs.Joined.{mem-join, all-parts, all-map, all-then, all-both, nodup-parts}
-use Rattle.audit.proofs.Size.{sound-bounds}
+use Rattle.rules.proofs.Tests.{and-left, and-right, between-true}
+use Rattle.rules.proofs.Joined.{mem-join, all-parts, all-map, all-then, all-both, nodup-parts}
+use Rattle.rules.proofs.Size.{sound-bounds}
 
 -- ---- rectangles
 

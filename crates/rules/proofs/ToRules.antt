@@ -17,22 +17,22 @@ use Rattle.figures.specs.Figures.{FAN, SLOTS}
 use Rattle.table.specs.Words.{Words, partAt}
 use Rattle.table.specs.Page.{Page, page, pageWords, coverOf}
 use Rattle.table.specs.Slots.{slots, isFree, levelAt, entriesAt}
-use Rattle.audit.specs.Rules.{isRoot, leastFill, leafEntries, numbersAt, entriesAbove, timesReferred}
+use Rattle.rules.specs.Rules.{isRoot, leastFill, leafEntries, numbersAt, entriesAbove, timesReferred}
 use Rattle.table.specs.Stations.{isPoint}
 use Rattle.table.specs.Tree.{Tree, topOf, entryOfTree, entriesOfTree, slotsOf, leastOf, Stored, Sound, Holds}
-use Rattle.audit.proofs.Tests.{by-test}
-use Rattle.audit.proofs.Joined.{map-join, all-parts}
-use Rattle.audit.proofs.Counted.{number-counted, nodup-count}
-use Rattle.audit.proofs.Size.{some-leaf}
-use Rattle.audit.proofs.Reading.{Good, good-root, good-child, least-some, top-inside, entry-reference, entry-rect, entries-fill, entry-child, stored-part, stored-child, stored-used, stored-level, stored-entries, held-root, held-points}
-use Rattle.audit.proofs.OneSlot.{above-above, above-in, least-most, least-root}
-use Rattle.audit.proofs.Ruled.{Child}
-use Rattle.audit.proofs.Complete.{leaves-perm, refs-perm}
-use Rattle.audit.proofs.Subtrees.{Subtree}
-use Rattle.audit.proofs.Held.{used-in-tree, held-complete, free-part-here, subtree-here}
-use Rattle.audit.proofs.EachRule.{free-rule1, page-rule1, fact-rule2, free-rule3, page-rule3, fact-rule4, fact-rule5, fact-rule6, free-rule7, fact-rule7, fact-header}
-use Rattle.audit.proofs.EachNew.{new-all}
-use Rattle.audit.proofs.Passed.{Passed}
+use Rattle.rules.proofs.Tests.{by-test}
+use Rattle.rules.proofs.Joined.{map-join, all-parts}
+use Rattle.rules.proofs.Counted.{number-counted, nodup-count}
+use Rattle.rules.proofs.Size.{some-leaf}
+use Rattle.rules.proofs.Reading.{Good, good-root, good-child, least-some, top-inside, entry-reference, entry-rect, entries-fill, entry-child, stored-part, stored-child, stored-used, stored-level, stored-entries, held-root, held-points}
+use Rattle.rules.proofs.OneSlot.{above-above, above-in, least-most, least-root}
+use Rattle.rules.proofs.Ruled.{Child}
+use Rattle.rules.proofs.Complete.{leaves-perm, refs-perm}
+use Rattle.rules.proofs.Subtrees.{Subtree}
+use Rattle.rules.proofs.Held.{used-in-tree, held-complete, free-part-here, subtree-here}
+use Rattle.rules.proofs.EachRule.{free-rule1, page-rule1, fact-rule2, free-rule3, page-rule3, fact-rule4, fact-rule5, fact-rule6, free-rule7, fact-rule7, fact-header}
+use Rattle.rules.proofs.EachNew.{new-all}
+use Rattle.rules.proofs.Passed.{Passed}
 
 -- ---- rules 5 and 6, of an entry of a stored tree's top
 

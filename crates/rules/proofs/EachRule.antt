@@ -19,12 +19,12 @@ use Rattle.table.specs.Words.{Words, word, isZero, rootOf, pointsOf, partAt, be
 use Rattle.table.specs.Page.{Page, filled, pageWords, freeWords, coverOf}
 use Rattle.table.specs.Slots.{slots, isFree, levelAt, entriesAt}
 use Rattle.table.specs.Stations.{stations, isPoint}
-use Rattle.audit.specs.Rules.{isNatural, rule1, isEmpty, rule2, leastFill, rule3, leafEntries, numbersAt, eachNew, rule4, isChild, entriesAbove, rule5, sameSpan, sameRect, rule6, isRoot, timesReferred, rule7, rule7Header}
-use Rattle.audit.proofs.Tests.{and-left, and-right, both-true, between-true, true-between, or-other, or-second, every-all, all-every}
-use Rattle.audit.proofs.Joined.{all-then}
-use Rattle.audit.proofs.PartWords.{free-zeros, page-zeros}
-use Rattle.audit.proofs.Enrolled.{stations-length}
-use Rattle.audit.proofs.Ruled.{Child}
+use Rattle.rules.specs.Rules.{isNatural, rule1, isEmpty, rule2, leastFill, rule3, leafEntries, numbersAt, eachNew, rule4, isChild, entriesAbove, rule5, sameSpan, sameRect, rule6, isRoot, timesReferred, rule7, rule7Header}
+use Rattle.rules.proofs.Tests.{and-left, and-right, both-true, between-true, true-between, or-other, or-second, every-all, all-every}
+use Rattle.rules.proofs.Joined.{all-then}
+use Rattle.rules.proofs.PartWords.{free-zeros, page-zeros}
+use Rattle.rules.proofs.Enrolled.{stations-length}
+use Rattle.rules.proofs.Ruled.{Child}
 
 -- ---- what a page's first words say
 

@@ -18,18 +18,18 @@ use Rattle.figures.specs.Figures.{LEAST, SLOTS}
 use Rattle.table.specs.Words.{Words, rootOf, pointsOf, partAt}
 use Rattle.table.specs.Page.{page, pageWords, coverOf}
 use Rattle.table.specs.Slots.{slots, isFree, levelAt, entriesAt}
-use Rattle.audit.specs.Rules.{isRoot, leafEntries, entriesAbove, refsAt}
+use Rattle.rules.specs.Rules.{isRoot, leafEntries, entriesAbove, refsAt}
 use Rattle.table.specs.Stations.{isPoint}
 use Rattle.table.specs.Tree.{Tree, topOf, entryOfTree, entriesOfTree, slotsOf, leavesOf, Filled, leastOf, Stored, Sound, Holds}
 use Rattle.table.proofs.Nodes.{entry-ext, page-ext}
-use Rattle.audit.proofs.Tests.{by-test}
-use Rattle.audit.proofs.Joined.{mem-join, join-mem, map-join, all-join, all-map}
-use Rattle.audit.proofs.Counted.{number-counted, counted-number, number-missing, count-nodup, Source, one-source, source-count, up-mem, nodup-up}
-use Rattle.audit.proofs.Reading.{entry-tree}
-use Rattle.audit.proofs.OneSlot.{Here, above-above, above-in, least-other, least-root}
-use Rattle.audit.proofs.Ruled.{Ruled, below, covered}
-use Rattle.audit.proofs.AsRead.{Read, treeAt, top-at, map-keeps, read-slot, read-leaves, read-refs}
-use Rattle.audit.proofs.Complete.{Complete, leaves-perm}
+use Rattle.rules.proofs.Tests.{by-test}
+use Rattle.rules.proofs.Joined.{mem-join, join-mem, map-join, all-join, all-map}
+use Rattle.rules.proofs.Counted.{number-counted, counted-number, number-missing, count-nodup, Source, one-source, source-count, up-mem, nodup-up}
+use Rattle.rules.proofs.Reading.{entry-tree}
+use Rattle.rules.proofs.OneSlot.{Here, above-above, above-in, least-other, least-root}
+use Rattle.rules.proofs.Ruled.{Ruled, below, covered}
+use Rattle.rules.proofs.AsRead.{Read, treeAt, top-at, map-keeps, read-slot, read-leaves, read-refs}
+use Rattle.rules.proofs.Complete.{Complete, leaves-perm}
 
 ones : (p : ℕ) → one (eqb p p) ≡ 1
 ones p = ap one (eq-eqb p p refl)

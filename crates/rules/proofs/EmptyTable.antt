@@ -22,18 +22,18 @@ use Rattle.table.specs.Page.{freeWords, coverOf}
 use Rattle.table.specs.Slots.{slots, isFree, entriesAt}
 use Rattle.table.specs.Stations.{stations, isPoint}
 use Rattle.table.specs.Empty.{freeSlots, emptyTable}
-use Rattle.audit.specs.Rules.{isEmpty, leafEntries, numbersAt, eachNew, entriesAbove}
+use Rattle.rules.specs.Rules.{isEmpty, leafEntries, numbersAt, eachNew, entriesAbove}
 use Rattle.table.proofs.Slots.{free-length, free-part-free}
-use Rattle.audit.proofs.Tests.{and-left, and-right, both-true}
-use Rattle.audit.proofs.Joined.{join-same, all-join}
-use Rattle.audit.proofs.Counted.{up-mem, every-below, below-every}
-use Rattle.audit.proofs.OneSlot.{minus-one, free-leaf, free-above}
-use Rattle.audit.proofs.PartWords.{two-words, free-fits}
-use Rattle.audit.proofs.Enrolled.{stations-length}
-use Rattle.audit.proofs.EachRule.{free-rule1, empty-rule2, free-rule3, fact-rule4, fact-rule5, fact-rule6, free-rule7, fact-header}
-use Rattle.audit.proofs.Ruled.{Child}
-use Rattle.audit.proofs.Passed.{Passed}
-use Rattle.audit.proofs.FromRules.{free-words}
+use Rattle.rules.proofs.Tests.{and-left, and-right, both-true}
+use Rattle.rules.proofs.Joined.{join-same, all-join}
+use Rattle.rules.proofs.Counted.{up-mem, every-below, below-every}
+use Rattle.rules.proofs.OneSlot.{minus-one, free-leaf, free-above}
+use Rattle.rules.proofs.PartWords.{two-words, free-fits}
+use Rattle.rules.proofs.Enrolled.{stations-length}
+use Rattle.rules.proofs.EachRule.{free-rule1, empty-rule2, free-rule3, fact-rule4, fact-rule5, fact-rule6, free-rule7, fact-header}
+use Rattle.rules.proofs.Ruled.{Child}
+use Rattle.rules.proofs.Passed.{Passed}
+use Rattle.rules.proofs.FromRules.{free-words}
 
 -- ---- a table is its header and its slots
 

@@ -15,10 +15,10 @@ use Rattle.table.specs.Words.{Words, word, partAt}
 use Rattle.table.specs.Page.{entryOf, filled, pageOf}
 use Rattle.table.specs.Slots.{slots, pageAt, entriesAt}
 use Rattle.table.specs.Stations.{stationOf, stationOfEntry, isLeaf, stationsAt, stations}
-use Rattle.audit.specs.Rules.{leafEntries}
+use Rattle.rules.specs.Rules.{leafEntries}
 use Rattle.table.proofs.Slots.{entries-count}
-use Rattle.audit.proofs.Joined.{join-same, map-join}
-use Rattle.audit.proofs.Counted.{up-mem}
+use Rattle.rules.proofs.Joined.{join-same, map-join}
+use Rattle.rules.proofs.Counted.{up-mem}
 
 -- joins of lists of the same lengths
 join-length : {A B C : Type 0} (f : A → List B) (g : A → List C) (xs : List A) → ((x : A) → length (f x) ≡ length (g x)) → length (join f xs) ≡ length (join g xs)

@@ -8,8 +8,8 @@ use Rattle.order.specs.Lists.{Mem}
 use Rattle.figures.specs.Figures.{LEAST}
 use Rattle.table.specs.Words.{Words}
 use Rattle.table.specs.Tree.{Tree, topOf, slotsOf, Stored}
-use Rattle.audit.proofs.Joined.{join-mem}
-use Rattle.audit.proofs.Reading.{Good, good-child, stored-child, child-mem}
+use Rattle.rules.proofs.Joined.{join-mem}
+use Rattle.rules.proofs.Reading.{Good, good-child, stored-child, child-mem}
 
 -- the subtree of t whose top is in slot s
 pub record Subtree (ws : Words) (lo l : ℕ) (t : Tree l) (s : ℕ) : Type 0 where

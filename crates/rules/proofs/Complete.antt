@@ -14,12 +14,12 @@ use Rattle.order.proofs.Lists.{by-bool, filter-mem, mem-filter, perm-join}
 use Rattle.figures.specs.Figures.{SLOTS}
 use Rattle.table.specs.Words.{Words}
 use Rattle.table.specs.Slots.{slots, isFree}
-use Rattle.audit.specs.Rules.{leafEntries, refsAt}
+use Rattle.rules.specs.Rules.{leafEntries, refsAt}
 use Rattle.table.specs.Tree.{Tree, topOf, slotsOf, leavesOf}
-use Rattle.audit.proofs.Joined.{nodup-perm}
-use Rattle.audit.proofs.Counted.{up-mem, nodup-up, filter-nodup, filter-both}
-use Rattle.audit.proofs.OneSlot.{free-leaf, free-above}
-use Rattle.audit.proofs.AsRead.{Read, read-slot, read-leaves, read-refs}
+use Rattle.rules.proofs.Joined.{nodup-perm}
+use Rattle.rules.proofs.Counted.{up-mem, nodup-up, filter-nodup, filter-both}
+use Rattle.rules.proofs.OneSlot.{free-leaf, free-above}
+use Rattle.rules.proofs.AsRead.{Read, read-slot, read-leaves, read-refs}
 
 pub record Complete (ws : Words) (l : ℕ) (t : Tree l) : Type 0 where
   pub read : Read l ws t

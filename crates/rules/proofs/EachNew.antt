@@ -9,10 +9,10 @@ use borrow.Author.Tests.{eq-eqb, not-true, ne-eqb}
 use Rattle.order.specs.Lists.{has, join, Mem, NoDup}
 use Rattle.order.specs.Order.{upFrom}
 use Rattle.order.proofs.Lists.{join-append, nodup-append}
-use Rattle.audit.specs.Rules.{eachNew}
-use Rattle.audit.proofs.Tests.{and-left, and-right, both-true, or-second}
-use Rattle.audit.proofs.Joined.{nodup-left, nodup-apart}
-use Rattle.audit.proofs.Counted.{up-append}
+use Rattle.rules.specs.Rules.{eachNew}
+use Rattle.rules.proofs.Tests.{and-left, and-right, both-true, or-second}
+use Rattle.rules.proofs.Joined.{nodup-left, nodup-apart}
+use Rattle.rules.proofs.Counted.{up-append}
 
 -- ---- a number in a list, as a test
 
