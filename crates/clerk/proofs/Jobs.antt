@@ -20,9 +20,9 @@ use Rattle.desk.proofs.Given.{if-refused}
 use Rattle.desk.proofs.Granted.{query-granted}
 use Rattle.desk.proofs.CallQuery.{queried-ext}
 use Rattle.sheet.specs.Bytes.{Bytes}
-use Rattle.sheet.specs.declared.job.Job.{Job}
-use Rattle.sheet.specs.declared.job.Job.the-variants.{Enrol, Withdraw, Query, MissingK, Misshapen}
-use Rattle.sheet.specs.Job.{ENROL, WITHDRAW, QUERY, jobOf}
+use Rattle.jobs.specs.declared.job.Job.{Job}
+use Rattle.jobs.specs.declared.job.Job.the-variants.{Enrol, Withdraw, Query, MissingK, Misshapen}
+use Rattle.jobs.specs.Job.{ENROL, WITHDRAW, QUERY, jobOf}
 use Rattle.slip.specs.Output.{outputLine, Laid}
 use Rattle.clerk.specs.Sheet.{State, granted, ranLine, lineOutput}
 use Rattle.clerk.specs.Running.{lent, jobOutput, RanJob, RanOne}

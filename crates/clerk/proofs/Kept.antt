@@ -17,9 +17,9 @@ use Rattle.desk.proofs.Granted.{query-granted}
 use Rattle.desk.proofs.Kept.{call-kept}
 use Rattle.desk.proofs.Finds.{laid-length}
 use Rattle.sheet.specs.Bytes.{Bytes}
-use Rattle.sheet.specs.declared.job.Job.{Job}
-use Rattle.sheet.specs.declared.job.Job.the-variants.{Enrol, Withdraw, Query, MissingK, Misshapen}
-use Rattle.sheet.specs.Job.{jobOf}
+use Rattle.jobs.specs.declared.job.Job.{Job}
+use Rattle.jobs.specs.declared.job.Job.the-variants.{Enrol, Withdraw, Query, MissingK, Misshapen}
+use Rattle.jobs.specs.Job.{jobOf}
 use Rattle.slip.specs.Output.{letterOf}
 use Rattle.slip.proofs.Decimal.{line-room}
 use Rattle.clerk.specs.Sheet.{State, granted, ranJob, ranLine, lineOutput}

@@ -11,7 +11,7 @@ use Rattle.rules.specs.Rules.{wellFormed}
 use Rattle.table.specs.Given.{numberGiven}
 use Rattle.sheet.specs.Bytes.{Bytes, linesOf}
 use Rattle.sheet.specs.Marks.{lineOf, nextOf}
-use Rattle.sheet.specs.declared.job.Job.{Job}
+use Rattle.jobs.specs.declared.job.Job.{Job}
 use Rattle.slip.specs.Output.{letterOf, outputLine, laidAt, Laid}
 use Rattle.clerk.specs.declared.run.Run.{Run}
 use Rattle.clerk.specs.Sheet.{State, ranJob, ranLine, lineOutput, linesOutput, LONGEST, start, sheetOutput}

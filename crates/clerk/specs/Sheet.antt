@@ -14,9 +14,9 @@ use Rattle.desk.specs.Calls.{ifDone, afterEnrol, afterWithdraw, Queried, afterQ
 use Rattle.desk.specs.Alone.{blankList}
 use Rattle.table.specs.Empty.{emptyTable}
 use Rattle.sheet.specs.Bytes.{Bytes, linesOf}
-use Rattle.sheet.specs.declared.job.Job.{Job}
-use Rattle.sheet.specs.declared.job.Job.the-variants.{Enrol, Withdraw, Query, MissingK, Misshapen}
-use Rattle.sheet.specs.Job.{jobOf}
+use Rattle.jobs.specs.declared.job.Job.{Job}
+use Rattle.jobs.specs.declared.job.Job.the-variants.{Enrol, Withdraw, Query, MissingK, Misshapen}
+use Rattle.jobs.specs.Job.{jobOf}
 use Rattle.slip.specs.Output.{letterOf, outputLine}
 
 -- the table and the answer list; the candidate list is the query's own

@@ -6,8 +6,8 @@ ghost use Rattle.clerk.specs.Running.{lent, Passes, longestLine, RanJob,
 use desk::answers::answers_passing;
 use desk::enrol::enrol_passing;
 use desk::withdraw::withdraw_passing;
-use sheet::job::Job;
-use sheet::job::job_of;
+use jobs::job::Job;
+use jobs::job::job_of;
 use slip::put_answers;
 use slip::put_line;
 use table::given::Given;

@@ -1,4 +1,2 @@
 pub mod Bytes
 pub mod Marks
-pub mod Number
-pub mod Job

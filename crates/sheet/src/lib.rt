@@ -1,9 +1,7 @@
-// The job sheet: its reader, lines, fields, numbers, the line handlers.
-// It promises what each line asks for, by the definitions in specs/.
-// It stands on order and table (definitions alone).
+// The bytes of the job sheet: its lines, their fields, its reader.
+// It promises which bytes each line and each field are, by the definitions in specs/.
+// It stands on order (lists).
 pub mod fields;
-pub mod job;
 pub mod lines;
 pub mod marks;
-pub mod number;
 pub mod reader;

@@ -6,10 +6,10 @@ use mathlib.Core.List.{List, [], _∷_, _++_, map}
 use mathlib.Core.Path.{_≡_}
 use lib.Dec.{ltb}
 use lib.ListN.{length, take, drop}
-use Rattle.sheet.specs.declared.job.Job.{Job}
-use Rattle.sheet.specs.declared.job.Job.the-variants.{Enrol, Withdraw, Query, MissingK, Misshapen}
 use Rattle.sheet.specs.Bytes.{Bytes, TAB, FEED}
-use Rattle.sheet.specs.Job.{ENROL, WITHDRAW, QUERY}
+use Rattle.jobs.specs.declared.job.Job.{Job}
+use Rattle.jobs.specs.declared.job.Job.the-variants.{Enrol, Withdraw, Query, MissingK, Misshapen}
+use Rattle.jobs.specs.Job.{ENROL, WITHDRAW, QUERY}
 
 -- a number in decimal digits, of which so many are enough
 abbrev pub decimalIn : ℕ → ℕ → Bytes

@@ -1,12 +1,12 @@
 // The slip: the bytes of an output line, laid into a lent buffer from a place on. Each function gives back the place behind its bytes.
 // It promises, by the definitions in specs/, every byte of an output line, and that every other byte of the buffer stays.
-// It stands on sheet (the marks and the letters) and order (lists).
+// It stands on sheet (the marks), jobs (the letters) and order (lists).
 ghost use mathlib.Core.Path.{_≡_};
 ghost use mathlib.Core.List.{[], _∷_, map};
 ghost use Prim.Native.Nat.{_+_, _*_, _≤_, _<_};
 ghost use lib.ListN.{length, take};
 ghost use Rattle.slip.specs.Output.{decimal, tabbed, headOf, outputLine, Laid};
-ghost use Rattle.sheet.specs.Job.{QUERY};
+ghost use Rattle.jobs.specs.Job.{QUERY};
 use sheet::marks::FEED;
 use sheet::marks::TAB;
 

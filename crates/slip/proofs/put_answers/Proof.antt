@@ -5,7 +5,7 @@ use native.Mathlib.Omega.{arith}
 use borrow.Author.Needs.{needs}
 use lib.ListN.{take}
 use Rattle.sheet.specs.Bytes.{FEED}
-use Rattle.sheet.specs.Job.{QUERY}
+use Rattle.jobs.specs.Job.{QUERY}
 use Rattle.slip.specs.Output.{decimal, tabbed, headOf, outputLine}
 use Rattle.slip.proofs.Laid.{laid-within, laid-then}
 use Rattle.slip.proofs.Decimal.{head-room, counts-room, tabbed-room, tabbed-apart}

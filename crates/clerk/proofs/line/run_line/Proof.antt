@@ -4,8 +4,8 @@ use mathlib.Core.List.{[]}
 use Rattle.desk.specs.Refusals.{site, enrolGives, withdrawGives}
 use Rattle.desk.specs.Calls.{afterEnrol, afterWithdraw}
 use Rattle.desk.proofs.CallTests.{one-passed, three-passed, three-back}
-use Rattle.sheet.specs.declared.job.Job.the-variants.{Query}
-use Rattle.sheet.specs.Job.{ENROL, WITHDRAW, QUERY}
+use Rattle.jobs.specs.declared.job.Job.the-variants.{Query}
+use Rattle.jobs.specs.Job.{ENROL, WITHDRAW, QUERY}
 use Rattle.slip.specs.Output.{outputLine, Laid}
 use Rattle.clerk.specs.Running.{lent, RanJob}
 use Rattle.clerk.proofs.Jobs.{line-ran, enrol-ran, withdraw-ran, missing-ran, misshapen-ran}

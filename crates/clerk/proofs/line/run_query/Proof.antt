@@ -6,7 +6,7 @@ use Rattle.desk.specs.Refusals.{site}
 use Rattle.desk.specs.Alone.{AnswersAlone}
 use Rattle.desk.proofs.CallTests.{three-back}
 use Rattle.desk.proofs.CallOrder.{not-done}
-use Rattle.sheet.specs.Job.{QUERY}
+use Rattle.jobs.specs.Job.{QUERY}
 use Rattle.slip.specs.Output.{outputLine, Laid}
 use Rattle.clerk.proofs.Jobs.{refused-ran, granted-ran, answers-room}
 use borrow.Author.Needs.{needs}
