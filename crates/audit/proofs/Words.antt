@@ -5,7 +5,7 @@ use mathlib.Core.Path.{_≡_, refl}
 use mathlib.Core.Bool.{true, false}
 use borrow.Author.Tests.{eq-eqb, ne-eqb}
 use lib.IntN.{ℤ, pos, negsuc}
-use Rattle.axis.specs.Word.{stepsOf}
+use Rattle.words.specs.Word.{stepsOf}
 use Rattle.table.specs.Words.{isZero}
 use Rattle.rules.specs.Rules.{isNatural}
 

@@ -5,10 +5,10 @@ ghost use Rattle.figures.specs.Figures.{LENGTH};
 ghost use Rattle.rules.specs.Rules.{isEmpty, rule2};
 use crate::asked;
 use crate::asked::Rule;
-use axis::border;
 use figures::Table;
 use table::part;
 use table::slot;
+use words::border;
 
 // The empty table: root −1, points 0, all slots free.
 pub fn is_empty(table: &[i32]) -> bool

@@ -12,12 +12,12 @@ ghost use Rattle.table.specs.Slots.{slots};
 ghost use Rattle.table.specs.Stations.{spanIsSpot, isPoint};
 ghost use Rattle.rules.specs.Rules.{numbersAt, rule4};
 ghost use Rattle.audit.specs.Seen.{refsOf, Marks, Entered};
-use axis::border;
 use axis::span::Span;
 use figures::Table;
 use table::node::Entry;
 use table::node::Node;
 use table::slot;
+use words::border;
 
 // The places of a map of all point numbers: 0 is none.
 const NUMBERS: usize = Table::HIGHEST + 1;

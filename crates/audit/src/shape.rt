@@ -6,10 +6,10 @@ ghost use Rattle.order.specs.Lists.{every};
 ghost use Rattle.figures.specs.Figures.{SLOTS, LENGTH};
 ghost use Rattle.table.specs.Words.{isZero};
 ghost use Rattle.rules.specs.Rules.{rule1, rule3, leastFill};
-use axis::border;
 use figures::Table;
 use table::part;
 use table::slot;
+use words::border;
 
 // The word 0, in steps. A negative word lies left of it.
 const ZERO: u64 = 2147483648;

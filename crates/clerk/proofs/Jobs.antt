@@ -10,7 +10,7 @@ use Rattle.table.specs.declared.given.Given.the-variants as given
 use Rattle.table.specs.Words.{Words}
 use Rattle.table.specs.Given.{numberGiven}
 use Rattle.filter.specs.Query.{answersFound}
-use Rattle.axis.specs.Word.{natOf}
+use Rattle.words.specs.Word.{natOf}
 use Rattle.desk.specs.declared.query.Answered.{Answered}
 use Rattle.desk.specs.Refusals.{site, enrolGives, withdrawGives, queryGives}
 use Rattle.desk.specs.Calls.{ifDone, afterEnrol, afterWithdraw, Queried, afterQuery}

@@ -4,7 +4,7 @@ use mathlib.Core.Path.{_≡_, refl, ap, _∙_}
 use mathlib.Core.List.{List, []}
 use native.Mathlib.Omega.{arith}
 use lib.ListN.{length, length-take}
-use Rattle.axis.specs.Word.{natOf}
+use Rattle.words.specs.Word.{natOf}
 use Rattle.table.specs.declared.given.Given.{Given}
 use Rattle.table.specs.Given.{numberGiven}
 use Rattle.filter.specs.Query.{answersFound, laidOver}

@@ -4,7 +4,7 @@ use mathlib.Core.Path.{_≡_, sym, ap, _∙_}
 use mathlib.Core.List.{List}
 use lib.IntN.{ℤ}
 use lib.ListN.{length, length-map, length-replicate}
-use Rattle.axis.specs.Word.{natOf}
+use Rattle.words.specs.Word.{natOf}
 use Rattle.grid.specs.Site.{Site}
 use Rattle.figures.specs.Figures.{MOST}
 use Rattle.table.specs.Words.{Words}

@@ -6,7 +6,7 @@ use mathlib.Core.Bool.{Bool, true, false, cond}
 use mathlib.Core.List.{List, [], _∷_, map}
 use lib.Dec.{eqb}
 use lib.ListN.{getD}
-use Rattle.axis.specs.Word.{natOf}
+use Rattle.words.specs.Word.{natOf}
 use Rattle.order.specs.Lists.{some, has, join}
 use Rattle.order.specs.Order.{upFrom}
 use Rattle.order.proofs.Order.{up-length, up-at}

@@ -10,7 +10,7 @@ use lib.ListN.{length}
 use denote.Enum.Declared.{tagOf}
 use types.Run.{OneOf, miss}
 use borrow.Author.Tests.{eq-eqb, eqb-true}
-use Rattle.axis.specs.Word.{natOf}
+use Rattle.words.specs.Word.{natOf}
 use Rattle.grid.specs.Site.{Site}
 use Rattle.table.specs.declared.given.Given.{Given}
 use Rattle.table.specs.declared.given.Given.the-variants.{Done, WrongLength, NotWellFormed, NoSuchNumber, OffGrid, AlreadyEnrolled, Full, NotEnrolled}

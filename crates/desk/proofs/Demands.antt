@@ -8,7 +8,7 @@ use lib.Dec.{eqb}
 use lib.IntN.{ℤ}
 use lib.ListN.{length}
 use native.Mathlib.Omega.{arith}
-use Rattle.axis.specs.Word.{natOf}
+use Rattle.words.specs.Word.{natOf}
 use Rattle.grid.specs.Site.{Site}
 use Rattle.order.specs.Order.{Perm, pskip, ptrans}
 use Rattle.order.proofs.Perm.{prefl}

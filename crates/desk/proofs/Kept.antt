@@ -9,9 +9,9 @@ use lib.Dec.{eqb}
 use lib.IntN.{ℤ}
 use lib.ListN.{length}
 use borrow.Author.Tests.{eqb-true, eq-eqb, ne-eqb}
-use Rattle.axis.specs.Word.{natOf, stepsOf, wordOf, onGrid}
+use Rattle.words.specs.Word.{natOf, stepsOf, wordOf, onGrid}
 use Rattle.grid.specs.Site.{Site}
-use Rattle.axis.proofs.Words.{word-steps, steps-test, grid-word}
+use Rattle.words.proofs.Words.{word-steps, steps-test, grid-word}
 use Rattle.grid.proofs.Site.{SiteOnGrid}
 use Rattle.order.specs.Lists.{filter, some, has, Mem, All, NoDup}
 use Rattle.order.specs.Order.{Perm, pnil, pskip, ptrans}

@@ -6,7 +6,7 @@ use mathlib.Core.Logic.{⊎-elim}
 use mathlib.Core.Bool.{true, false, not, false≢true}
 use mathlib.Core.List.{List, map, map-map}
 use lib.ListN.{length}
-use Rattle.axis.specs.Word.{natOf}
+use Rattle.words.specs.Word.{natOf}
 use Rattle.order.specs.Lists.{count, NoDup}
 use Rattle.order.specs.Order.{Perm, upFrom}
 use Rattle.order.proofs.Perm.{psym, perm-map, perm-length}

@@ -3,7 +3,7 @@ use Prim.Native.Nat.{ℕ}
 use mathlib.Core.List.{List}
 use lib.IntN.{ℤ}
 use lib.ListN.{length}
-use Rattle.axis.specs.Word.{stepsOf, natOf}
+use Rattle.words.specs.Word.{stepsOf, natOf}
 use Rattle.grid.specs.Site.{Site, placeOf}
 use Rattle.grid.specs.Place.{spotOf}
 use Rattle.table.specs.declared.node.Entry.{Entry}

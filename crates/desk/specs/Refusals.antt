@@ -5,7 +5,7 @@ use mathlib.Core.List.{List, [], _∷_, map}
 use lib.Dec.{eqb, leb, ltb}
 use lib.IntN.{ℤ, pos, negsuc}
 use lib.ListN.{length}
-use Rattle.axis.specs.Word.{natOf, onGrid}
+use Rattle.words.specs.Word.{natOf, onGrid}
 use Rattle.grid.specs.Site.{Site}
 use Rattle.order.specs.Lists.{has}
 use Rattle.figures.specs.Figures.{MOST, HIGHEST}

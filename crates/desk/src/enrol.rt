@@ -9,11 +9,11 @@ ghost use Rattle.desk.specs.Calls.{pointEntry, afterEnrol};
 use crate::refuse;
 use crate::words::are_words;
 use audit::check;
-use axis::border;
 use grid::place::Place;
 use joining::enrol::enrol_in;
 use table::given::Given;
 use table::node::Entry;
+use words::border;
 
 // The entry that a leaf has for a point.
 fn point_entry(number: i32, x: i32, y: i32) -> Entry

@@ -2,7 +2,7 @@
 ghost use mathlib.Core.Path.{_≡_};
 ghost use mathlib.Core.Bool.{true};
 ghost use lib.ListN.{length};
-ghost use Rattle.axis.specs.Word.{natOf};
+ghost use Rattle.words.specs.Word.{natOf};
 ghost use Rattle.figures.specs.Figures.{LENGTH};
 ghost use Rattle.rules.specs.Rules.{wellFormed};
 ghost use Rattle.filter.specs.Query.{answersFound};
@@ -11,12 +11,12 @@ ghost use Rattle.desk.specs.Lent.{told, refuses, Answers};
 use crate::refuse;
 use crate::words::are_words;
 use audit::check;
-use axis::border::natural;
 use row::answer::Reply;
 use row::answer::answer;
 use row::record::Candidate;
 use table::given::Given;
 use table::slot;
+use words::border::natural;
 
 // What a query hands back: n answers, m candidates, o nodes opened.
 pub struct Answered {

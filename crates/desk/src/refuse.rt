@@ -6,9 +6,9 @@ ghost use Rattle.order.specs.Lists.{has};
 ghost use Rattle.figures.specs.Figures.{SLOTS, LENGTH};
 ghost use Rattle.rules.specs.Rules.{numbersAt};
 ghost use Rattle.desk.specs.Refusals.{site, noSuchNumber, offGrid, noSuchK, isEnrolled, isFull};
-use axis::border;
 use figures::Table;
 use table::slot;
+use words::border;
 
 // 3: point number outside 1 to 9,999.
 pub(crate) fn no_such_number(number: i32) -> bool

@@ -9,9 +9,9 @@ ghost use Rattle.desk.specs.Calls.{afterWithdraw};
 use crate::refuse;
 use crate::words::are_words;
 use audit::check;
-use axis::border;
 use leaving::withdraw::withdraw_in;
 use table::given::Given;
+use words::border;
 
 // What a withdrawal gives on a table that passes the check: 3, 8.
 fn withdraw_given(table: &[i32], number: i32) -> Given

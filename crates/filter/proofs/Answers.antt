@@ -9,10 +9,10 @@ use lib.Dec.{eqb}
 use lib.IntN.{ℤ, pos, negsuc}
 use lib.ListN.{length}
 use borrow.Author.Tests.{eqb-true, eqb-false, eq-eqb, ne-eqb, le-ltb}
-use Rattle.axis.specs.Word.{IsWord, natOf}
+use Rattle.words.specs.Word.{IsWord, natOf}
 use Rattle.grid.specs.Site.{Site, placeOf, distance²}
 use Rattle.grid.specs.Nearer.{nearer, nearerTo}
-use Rattle.axis.proofs.Words.{word-is, steps-word}
+use Rattle.words.proofs.Words.{word-is, steps-word}
 use Rattle.grid.proofs.Rects.{place-ext}
 use Rattle.grid.proofs.Site.{SiteWords, SiteOnGrid, site-words, dist-sites}
 use Rattle.order.specs.Lists.{count, one, filter, every, join, Mem, All, NoDup}

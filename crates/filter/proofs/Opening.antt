@@ -5,7 +5,7 @@ use mathlib.Core.Path.{_≡_, refl, sym, ap, _∙_}
 use mathlib.Core.Bool.{Bool, true, false}
 use lib.ListN.{length}
 use borrow.Author.Tests.{eqb-true}
-use Rattle.axis.specs.Word.{IsWord}
+use Rattle.words.specs.Word.{IsWord}
 use Rattle.grid.specs.declared.place.Place.{Place}
 use Rattle.grid.specs.Place.{RectOnGrid}
 use Rattle.grid.specs.Site.{Site, placeOf}

@@ -8,10 +8,10 @@ use mathlib.Core.List.{List, [], _∷_, _++_, map, map-append, append-assoc}
 use lib.IntN.{pos}
 use lib.ListN.{length, getD, drop, set, length-append, length-drop, length-map, List·getD-append}
 use lib.Seq.{drop-append-add, drop-drop, drop-cons, set-at}
-use Rattle.axis.specs.Word.{stepsOf, wordOf, natOf}
+use Rattle.words.specs.Word.{stepsOf, wordOf, natOf}
 use Rattle.grid.specs.declared.place.Place.{Place}
 use Rattle.grid.specs.Place.{dist², spotOf}
-use Rattle.axis.proofs.Words.{steps-word}
+use Rattle.words.proofs.Words.{steps-word}
 use Rattle.grid.proofs.Rects.{place-ext}
 use Rattle.order.specs.Lists.{one, count, All}
 use Rattle.filter.specs.Query.{laidOver}

@@ -8,7 +8,7 @@ use mathlib.Core.List.{[], _∷_, _++_, map, List·Memᴰ·head, List·Memᴰ·t
 use lib.Dec.{leb}
 use lib.IntN.{pos}
 use lib.ListN.{length, getD, set, length-append, length-map}
-use Rattle.axis.specs.Word.{wordOf}
+use Rattle.words.specs.Word.{wordOf}
 use Rattle.grid.specs.declared.place.Place.{Place}
 use Rattle.grid.specs.Place.{PlaceOnGrid, dist²}
 use Rattle.grid.specs.Nearer.{nearerTo, cornersNearer}

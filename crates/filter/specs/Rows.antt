@@ -5,7 +5,7 @@ use mathlib.Core.Bool.{true}
 use mathlib.Core.List.{List, map}
 use lib.IntN.{ℤ, pos}
 use lib.ListN.{length}
-use Rattle.axis.specs.Word.{stepsOf, wordOf, natOf}
+use Rattle.words.specs.Word.{stepsOf, wordOf, natOf}
 use Rattle.grid.specs.declared.place.Place.{Place}
 use Rattle.grid.specs.Place.{PlaceOnGrid, dist², spotOf}
 use Rattle.order.specs.Lists.{All}

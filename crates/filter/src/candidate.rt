@@ -4,16 +4,16 @@ ghost use mathlib.Core.Bool.{true};
 ghost use Prim.Native.Nat.{_<_};
 ghost use lib.IntN.{pos};
 ghost use lib.ListN.{length, set};
-ghost use Rattle.axis.specs.Word.{wordOf};
+ghost use Rattle.words.specs.Word.{wordOf};
 ghost use Rattle.grid.specs.Place.{PlaceOnGrid, dist²};
 ghost use Rattle.table.specs.Stations.{isPoint};
 ghost use Rattle.filter.specs.Walk.{spotIn, visited};
 ghost use Rattle.filter.specs.Rows.{rows, Ready, Went};
 use crate::discard::hides_point;
 use crate::seen::Seen;
-use axis::border;
 use grid::place::Place;
 use table::node::Entry;
+use words::border;
 
 // Record `at` becomes that of the point.
 fn note(

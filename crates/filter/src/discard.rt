@@ -8,11 +8,11 @@ ghost use Rattle.grid.specs.Nearer.{nearerTo, cornersNearer};
 ghost use Rattle.order.specs.Lists.{count};
 ghost use Rattle.order.specs.Order.{upFrom};
 ghost use Rattle.filter.specs.Rows.{placeIn};
-use axis::border;
 use grid::place::Place;
 use grid::place::is_nearer;
 use grid::rect::Rect;
 use order::one;
+use words::border;
 
 // The place of candidate i.
 pub fn place_at(xs: &[i32], ys: &[i32], i: usize) -> Place

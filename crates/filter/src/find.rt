@@ -2,7 +2,7 @@
 ghost use mathlib.Core.Path.{_≡_};
 ghost use mathlib.Core.Bool.{true};
 ghost use lib.ListN.{length};
-ghost use Rattle.axis.specs.Word.{IsWord, onGrid};
+ghost use Rattle.words.specs.Word.{IsWord, onGrid};
 ghost use Rattle.grid.specs.Site.{placeOf};
 ghost use Rattle.order.specs.Lists.{All};
 ghost use Rattle.figures.specs.Figures.{LENGTH};
@@ -12,11 +12,11 @@ ghost use Rattle.filter.specs.Query.{found};
 ghost use Rattle.filter.specs.Rows.{rows, Room, Noted};
 use crate::seen::Seen;
 use crate::walk::walk;
-use axis::border::steps;
 use grid::place::Place;
 use table::slot::level_at;
 use table::slot::points_of;
 use table::slot::root_of;
+use words::border::steps;
 
 // From the root down; the empty table has no root to open.
 pub fn find(

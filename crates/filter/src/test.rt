@@ -3,7 +3,7 @@ ghost use mathlib.Core.Path.{_≡_};
 ghost use mathlib.Core.Bool.{true};
 ghost use Prim.Native.Nat.{_<_, min};
 ghost use lib.ListN.{length};
-ghost use Rattle.axis.specs.Word.{IsWord};
+ghost use Rattle.words.specs.Word.{IsWord};
 ghost use Rattle.grid.specs.Place.{PlaceOnGrid};
 ghost use Rattle.order.specs.Lists.{count as countOf, All};
 ghost use Rattle.figures.specs.Figures.{SLOTS, LENGTH};

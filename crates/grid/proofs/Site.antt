@@ -6,11 +6,11 @@ use native.Mathlib.Decide.{decLt}
 use native.Mathlib.Omega.{arith}
 use borrow.Author.Tests.{lt-ltb, le-ltb}
 use lib.IntN.{ℤ, pos, negsuc, natAbs, subℕ, _-ℤ_}
-use Rattle.axis.specs.Word.{IsWord, onGrid, stepsOf}
 use Rattle.axis.specs.Axis.{apart, sq}
+use Rattle.words.specs.Word.{IsWord, onGrid, stepsOf}
 use Rattle.grid.specs.Place.{PlaceOnGrid, dist²}
 use Rattle.grid.specs.Site.{Site, squareApart, distance², placeOf}
-use Rattle.axis.proofs.Words.{grid-steps, grid-word}
+use Rattle.words.proofs.Words.{grid-steps, grid-word}
 use Rattle.grid.proofs.Rects.{dist-most}
 
 -- both coordinates are words

@@ -2,7 +2,7 @@
 use Prim.Native.Nat.{ℕ, _+_, _*_}
 use lib.IntN.{ℤ, natAbs, _-ℤ_}
 use Rattle.grid.specs.declared.place.Place.{Place}
-use Rattle.axis.specs.Word.{stepsOf}
+use Rattle.words.specs.Word.{stepsOf}
 
 pub record Site : Type 0 where
   pub x : ℤ

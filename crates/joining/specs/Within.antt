@@ -4,7 +4,7 @@ use mathlib.Core.Path.{_≡_}
 use mathlib.Core.Bool.{true}
 use mathlib.Core.List.{List, [], _∷_}
 use lib.ListN.{length}
-use Rattle.axis.specs.Word.{IsWord}
+use Rattle.words.specs.Word.{IsWord}
 use Rattle.grid.specs.Place.{RectOnGrid}
 use Rattle.order.specs.Lists.{count, All}
 use Rattle.table.specs.declared.node.Entry.{Entry}

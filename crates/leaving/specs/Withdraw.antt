@@ -6,7 +6,7 @@ use mathlib.Core.List.{List, _++_, map}
 use lib.Dec.{eqb, leb, ltb}
 use lib.IntN.{pos, negsuc}
 use lib.ListN.{length, set}
-use Rattle.axis.specs.Word.{IsWord}
+use Rattle.words.specs.Word.{IsWord}
 use Rattle.grid.specs.Place.{RectOnGrid}
 use Rattle.order.specs.Lists.{firstPlace, has, some, All, NoDup}
 use Rattle.table.specs.declared.node.Entry.{Entry}

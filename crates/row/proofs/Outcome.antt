@@ -9,11 +9,11 @@ use lib.IntN.{pos}
 use lib.ListN.{length, getD, take, drop, length-map, length-append, List·getD-append}
 use lib.Seq.{take-at}
 use borrow.Author.Tests.{eqb-true}
-use Rattle.axis.specs.Word.{wordOf, natOf}
+use Rattle.words.specs.Word.{wordOf, natOf}
 use Rattle.grid.specs.Nearer.{nearer, nearerTo}
 use Rattle.grid.specs.Place.{dist², spotOf}
 use Rattle.grid.specs.Site.{Site, placeOf}
-use Rattle.axis.proofs.Words.{steps-word}
+use Rattle.words.proofs.Words.{steps-word}
 use Rattle.grid.proofs.Rects.{place-ext}
 use Rattle.grid.proofs.Site.{SiteOnGrid}
 use Rattle.order.specs.Lists.{filter, every, count, All}

@@ -5,7 +5,7 @@ use mathlib.Core.Bool.{true, cond}
 use mathlib.Core.List.{List, map}
 use lib.Dec.{leb}
 use lib.ListN.{length}
-use Rattle.axis.specs.Word.{onGrid, wordOf}
+use Rattle.words.specs.Word.{onGrid, wordOf}
 use Rattle.grid.specs.Site.{Site, placeOf}
 use Rattle.grid.specs.Place.{dist²}
 use Rattle.table.specs.declared.node.Entry.{Entry}

@@ -3,7 +3,7 @@ use Prim.Native.Nat.{ℕ}
 use mathlib.Core.List.{List, map}
 use lib.IntN.{pos}
 use lib.ListN.{getD}
-use Rattle.axis.specs.Word.{natOf}
+use Rattle.words.specs.Word.{natOf}
 use Rattle.order.specs.Order.{upFrom}
 use Rattle.table.specs.Words.{word}
 use Rattle.filter.specs.Query.{Record}

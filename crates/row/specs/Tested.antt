@@ -4,7 +4,7 @@ use mathlib.Core.Path.{_≡_}
 use mathlib.Core.Bool.{Bool, true, false}
 use mathlib.Core.List.{List, map}
 use lib.ListN.{length, getD, take}
-use Rattle.axis.specs.Word.{IsWord, stepsOf}
+use Rattle.words.specs.Word.{IsWord, stepsOf}
 use Rattle.grid.specs.declared.place.Place.{Place}
 use Rattle.grid.specs.Nearer.{nearer}
 use Rattle.grid.specs.Place.{spotOf, dist²}

@@ -7,7 +7,7 @@ ghost use Rattle.filter.specs.Rows.{rows, Room};
 ghost use Rattle.row.specs.Records.{candidateIn, candidatesIn};
 use crate::record::Candidate;
 use crate::record::append;
-use axis::border;
+use words::border;
 
 // Candidate i of the rows, as a record.
 pub fn candidate_at(numbers: &[i32], xs: &[i32], ys: &[i32], squares: &[u64], i: usize) -> Candidate

@@ -7,10 +7,10 @@ ghost use Rattle.table.specs.Stations.{isPoint};
 ghost use Rattle.row.specs.Tested.{placeOf, entryOf, nearerAs, nearerAmong, Readable};
 use crate::record::Candidate;
 use crate::record::record_at;
-use axis::border;
 use grid::place::Place;
 use grid::place::is_nearer;
 use order::one;
+use words::border;
 
 pub fn place_of(c: Candidate) -> Place
     ensures { λ r. ⌜ r ≡ placeOf c ⌝ }

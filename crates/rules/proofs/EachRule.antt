@@ -6,8 +6,8 @@ use mathlib.Core.Bool.{Bool, true, false, cond, not, _&&_}
 use lib.Dec.{eqb, ltb}
 use lib.ListN.{length, drop}
 use borrow.Author.Tests.{eqb-true, eq-eqb, ltb-true, lt-ltb, not-true}
-use Rattle.axis.specs.Word.{natOf}
 use Rattle.axis.specs.declared.span.Span.{Span}
+use Rattle.words.specs.Word.{natOf}
 use Rattle.grid.specs.declared.rect.Rect.{Rect}
 use Rattle.axis.proofs.Axis.{span-ext}
 use Rattle.grid.proofs.Rects.{rect-ext}

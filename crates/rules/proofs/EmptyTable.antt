@@ -10,8 +10,8 @@ use lib.IntN.{ℤ, pos, negsuc}
 use lib.ListN.{length, take, drop, length-append, take-append-drop, drop-of-length-le}
 use lib.Seq.{drop-drop, take-at, drop-append-add}
 use borrow.Author.Tests.{eqb-true}
-use Rattle.axis.specs.Word.{IsWord, natOf}
-use Rattle.axis.proofs.Words.{natural-word}
+use Rattle.words.specs.Word.{IsWord, natOf}
+use Rattle.words.proofs.Words.{natural-word}
 use Rattle.order.specs.Lists.{every, join, All}
 use Rattle.order.specs.Order.{upFrom}
 use Rattle.order.proofs.Lists.{all-at}

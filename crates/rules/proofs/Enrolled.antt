@@ -5,8 +5,8 @@ use mathlib.Core.Path.{_≡_, refl, sym, ap, _∙_}
 use mathlib.Core.Bool.{Bool, true, false, cond}
 use mathlib.Core.List.{List, [], _∷_, map, map-map}
 use lib.ListN.{length, length-append, length-map}
-use Rattle.axis.specs.Word.{IsWord}
-use Rattle.axis.proofs.Words.{word-steps}
+use Rattle.words.specs.Word.{IsWord}
+use Rattle.words.proofs.Words.{word-steps}
 use Rattle.order.specs.Lists.{join, All}
 use Rattle.order.specs.Order.{upFrom}
 use Rattle.order.proofs.Order.{up-length}

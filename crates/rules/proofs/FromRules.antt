@@ -5,8 +5,8 @@ use mathlib.Core.Path.{_≡_, refl, subst}
 use mathlib.Core.Bool.{true, false, false≢true}
 use lib.IntN.{ℤ, pos, negsuc}
 use lib.ListN.{length, drop}
-use Rattle.axis.specs.Word.{IsWord, natOf}
-use Rattle.axis.proofs.Words.{natural-word}
+use Rattle.words.specs.Word.{IsWord, natOf}
+use Rattle.words.proofs.Words.{natural-word}
 use Rattle.order.specs.Lists.{join, All, NoDup}
 use Rattle.order.specs.Order.{upFrom}
 use Rattle.order.proofs.Lists.{all-take, all-drop, all-at}

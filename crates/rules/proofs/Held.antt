@@ -7,7 +7,7 @@ use mathlib.Core.Bool.{true, false, false≢true, _&&_}
 use mathlib.Core.List.{List, [], _∷_, map, List·Memᴰ·head}
 use lib.Dec.{eqb}
 use lib.ListN.{length}
-use Rattle.axis.specs.Word.{IsWord}
+use Rattle.words.specs.Word.{IsWord}
 use Rattle.order.specs.Lists.{every, filter, Mem, All}
 use Rattle.order.specs.Order.{Perm}
 use Rattle.order.proofs.Perm.{psym, perm-map, perm-length}

@@ -6,7 +6,7 @@ use mathlib.Core.Bool.{Bool, true, false, cond, _||_, false≢true}
 use mathlib.Core.List.{List, [], List·Memᴰ·not-nil}
 use lib.IntN.{ℤ, pos, negsuc}
 use borrow.Author.Tests.{eqb-true, eqb-false, eq-eqb, ne-eqb, not-true}
-use Rattle.axis.specs.Word.{natOf}
+use Rattle.words.specs.Word.{natOf}
 use Rattle.order.specs.Lists.{Mem}
 use Rattle.order.proofs.Lists.{by-bool}
 use Rattle.table.specs.declared.node.Entry.{Entry}

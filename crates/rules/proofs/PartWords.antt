@@ -9,8 +9,8 @@ use lib.IntN.{ℤ, pos, negsuc}
 use lib.ListN.{length, take, drop, replicate, length-map, length-drop, take-append-drop}
 use lib.Seq.{take-add, drop-drop, drop-at}
 use borrow.Author.Tests.{eqb-true}
-use Rattle.axis.specs.Word.{IsWord, stepsOf, wordOf, natOf}
-use Rattle.axis.proofs.Words.{word-steps, word-is, natural-word}
+use Rattle.words.specs.Word.{IsWord, stepsOf, wordOf, natOf}
+use Rattle.words.proofs.Words.{word-steps, word-is, natural-word}
 use Rattle.order.specs.Lists.{every, All}
 use Rattle.order.specs.Order.{upFrom}
 use Rattle.order.proofs.Lists.{all-at, all-append, all-replicate}

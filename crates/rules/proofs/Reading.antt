@@ -8,8 +8,8 @@ use mathlib.Core.List.{List, [], _∷_, List·Memᴰ·head, List·Memᴰ·tail, 
 use lib.Dec.{eqb}
 use lib.ListN.{length, getD, length-map}
 use borrow.Author.Tests.{eqb-true}
-use Rattle.axis.specs.Word.{natOf}
 use Rattle.axis.specs.declared.span.Span.{Span}
+use Rattle.words.specs.Word.{natOf}
 use Rattle.grid.specs.declared.rect.Rect.{Rect}
 use Rattle.axis.specs.Axis.{OnGrid}
 use Rattle.grid.specs.Place.{RectOnGrid, rectGrown, spotOf}

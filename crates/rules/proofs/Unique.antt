@@ -6,9 +6,9 @@ use mathlib.Core.Path.{_≡_, refl, sym, ap, _∙_}
 use mathlib.Core.List.{List, [], _∷_, _++_, map, append-assoc}
 use lib.IntN.{pos, pos-ne-negsuc}
 use lib.ListN.{length, replicate}
-use Rattle.axis.specs.Word.{wordOf, natOf}
-use Rattle.axis.proofs.Words.{word-left, word-right}
 use Rattle.axis.proofs.Axis.{span-ext}
+use Rattle.words.specs.Word.{wordOf, natOf}
+use Rattle.words.proofs.Words.{word-left, word-right}
 use Rattle.grid.proofs.Rects.{rect-ext}
 use Rattle.order.specs.Lists.{All}
 use Rattle.table.specs.declared.node.Entry.{Entry}

@@ -6,8 +6,8 @@ use mathlib.Core.Bool.{true}
 use mathlib.Core.List.{List, [], _∷_, _++_, map}
 use lib.IntN.{pos, negsuc}
 use Rattle.grid.specs.declared.rect.Rect.{Rect}
-use Rattle.axis.specs.Word.{stepsOf, wordOf}
 use Rattle.axis.specs.Axis.{apart, sq, gap}
+use Rattle.words.specs.Word.{stepsOf, wordOf}
 use Rattle.grid.specs.Place.{dist², areaOf, growthOf, longerAxis, leastSquare}
 use Rattle.grid.specs.Nearer.{nearer, nearerTo, cornersNearer}
 use Rattle.grid.specs.Site.{Site, squareApart, distance²}

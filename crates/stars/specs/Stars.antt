@@ -7,7 +7,7 @@ use lib.IntN.{ℤ, pos, negsuc}
 use lib.ListN.{length, replicate}
 use Rattle.grid.specs.declared.place.Place.{Place}
 use Rattle.grid.specs.declared.rect.Rect.{Rect}
-use Rattle.axis.specs.Word.{stepsOf}
+use Rattle.words.specs.Word.{stepsOf}
 use Rattle.grid.specs.Site.{Site, placeOf}
 use Rattle.grid.specs.Nearer.{cornersNearer}
 use Rattle.table.specs.Words.{Words, rootOf}

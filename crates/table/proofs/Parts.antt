@@ -12,7 +12,7 @@ use lib.Dec.{eqb}
 use lib.IntN.{ℤ, pos, negsuc}
 use lib.ListN.{length, getD, take, drop, set, replicate, getD-replicate}
 use lib.Seq.{drop-drop, take-suc, take-suc-set, take-all, length-take-le}
-use Rattle.axis.specs.Word.{stepsOf, wordOf}
+use Rattle.words.specs.Word.{stepsOf, wordOf}
 use Rattle.order.specs.Order.{upFrom}
 use Rattle.table.specs.declared.node.Entry.{Entry}
 use Rattle.figures.specs.Figures.{FAN, ENTRY, WIDTH}

@@ -12,8 +12,8 @@ use lib.ListN.{length, getD, take, drop, set, replicate, length-append, length-d
 use lib.Seq.{getD-take, getD-drop, split-at, drop-set-lt, length-take-le, getD-append-add}
 use Rattle.axis.proofs.Axis.{span-ext}
 use Rattle.grid.proofs.Rects.{rect-ext}
-use Rattle.axis.proofs.Words.{steps-word}
-use Rattle.axis.specs.Word.{stepsOf, natOf}
+use Rattle.words.proofs.Words.{steps-word}
+use Rattle.words.specs.Word.{stepsOf, natOf}
 use Rattle.order.specs.Lists.{All, firstPlace}
 use Rattle.order.specs.Order.{upFrom}
 use Rattle.order.proofs.Lists.{by-bool, map-at, all-at}

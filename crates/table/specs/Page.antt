@@ -4,7 +4,7 @@ use mathlib.Core.Path.{_≡_}
 use mathlib.Core.List.{List, [], _∷_, _++_, map}
 use lib.IntN.{ℤ, pos, negsuc}
 use lib.ListN.{length, take, drop, replicate}
-use Rattle.axis.specs.Word.{stepsOf, wordOf, natOf}
+use Rattle.words.specs.Word.{stepsOf, wordOf, natOf}
 use Rattle.grid.specs.declared.rect.Rect.{Rect}
 use Rattle.grid.specs.Place.{rectGrown}
 use Rattle.order.specs.Order.{upFrom}

@@ -4,8 +4,8 @@ use mathlib.Core.Bool.{Bool, cond, _&&_}
 use mathlib.Core.List.{List, [], map}
 use lib.Dec.{eqb}
 use lib.IntN.{ℤ}
-use Rattle.axis.specs.Word.{natOf, wordOf}
 use Rattle.axis.specs.Axis.{stepOnGrid}
+use Rattle.words.specs.Word.{natOf, wordOf}
 use Rattle.grid.specs.Site.{Site}
 use Rattle.axis.specs.declared.span.Span.{Span}
 use Rattle.order.specs.Order.{upFrom}

@@ -7,10 +7,10 @@ ghost use Rattle.table.specs.Words.{placed, word, isMinusOne};
 ghost use Rattle.table.specs.Page.{Shows, shown, EntryFits, PageFits, entryOf, filled, pageOf, entryWords, pageWords, freeWords};
 use crate::node::Entry;
 use crate::node::Node;
-use axis::border;
 use axis::span::Span;
 use figures::Table;
 use grid::rect::Rect;
+use words::border;
 
 // The word −1, in steps: the level of a free slot, and the root of an empty table.
 pub const NONE: u64 = 2147483647;

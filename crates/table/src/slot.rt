@@ -10,8 +10,8 @@ ghost use Rattle.table.specs.Slots.{isFree, pageAt, levelAt, entriesAt, 
 use crate::node::Entry;
 use crate::node::Node;
 use crate::part;
-use axis::border;
 use figures::Table;
+use words::border;
 
 // Where a slot's words start, and those of the slot before it end.
 fn start(slot: usize) -> usize

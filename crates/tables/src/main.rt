@@ -44,7 +44,7 @@ fn poke(words: &mut [i32], line: &[u8]) {
         if 65536 < i {
             return;
         }
-        let at = axis::border::natural(number_in(line, i));
+        let at = words::border::natural(number_in(line, i));
         put(words, at, number_in(line, i + 1));
         i += 2;
     }
@@ -63,7 +63,7 @@ fn given_for(line: &[u8]) -> u8 {
     let mut words = [0i32; 10755];
     blank(&mut words);
     poke(&mut words, line);
-    given_of(&words, axis::border::natural(number_in(line, 0)))
+    given_of(&words, words::border::natural(number_in(line, 0)))
 }
 
 fn say(given: u8) {

@@ -2,7 +2,7 @@
 use mathlib.Core.Path.{_≡_, sym, _∙_}
 use mathlib.Core.Bool.{true, false}
 use borrow.Author.Tests.{eq-eqb, ne-eqb}
-use Rattle.axis.specs.Word.{stepsOf}
+use Rattle.words.specs.Word.{stepsOf}
 use Rattle.table.specs.Words.{word, isMinusOne, pointsOf}
 use Rattle.rules.specs.Rules.{isEmpty}
 use Rattle.table.proofs.Parts.{none-steps}

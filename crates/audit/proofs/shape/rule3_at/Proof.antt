@@ -4,7 +4,7 @@ use mathlib.Core.Path.{_≡_, ap, sym, _∙_}
 use mathlib.Core.Bool.{true, false}
 use native.Mathlib.Omega.{arith}
 use borrow.Author.Tests.{le-leb, lt-leb}
-use Rattle.axis.specs.Word.{natOf}
+use Rattle.words.specs.Word.{natOf}
 use Rattle.figures.specs.Figures.{FAN}
 use Rattle.table.specs.Words.{Words, word, startOf, partAt, between}
 use Rattle.table.specs.Slots.{isFree}

@@ -2,7 +2,7 @@
 use Prim.Native.Nat.{ℕ}
 use mathlib.Core.Path.{_≡_, _∙_}
 use Rattle.grid.specs.Place.{spotOf}
-use Rattle.axis.proofs.Machine.{steps-passed, natural-passed}
+use Rattle.words.proofs.Machine.{steps-passed, natural-passed}
 use Rattle.table.proofs.Nodes.{entry-ext}
 use borrow.Author.Needs.{needs}
 use Rattle.desk.proofs.enrol.point_entry.Statement.{statement}

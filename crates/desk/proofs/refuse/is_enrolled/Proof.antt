@@ -4,7 +4,7 @@ use native.Mathlib.Omega.{arith}
 use mathlib.Core.Path.{_≡_, sym, ap, _∙_}
 use mathlib.Core.Bool.{false}
 use borrow.Author.Count.{below-none, below-more}
-use Rattle.axis.proofs.Machine.{natural-passed}
+use Rattle.words.proofs.Machine.{natural-passed}
 use Rattle.order.specs.Lists.{has}
 use Rattle.figures.specs.Figures.{SLOTS}
 use Rattle.rules.specs.Rules.{numbersAt}

@@ -1,7 +1,7 @@
 -- `refuse::no_such_number` meets its contract: outside the range on either side. Assumes nothing.
 use native.Mathlib.Omega.{arith}
 use Rattle.figures.specs.Figures.{HIGHEST}
-use Rattle.axis.proofs.Machine.{natural-passed}
+use Rattle.words.proofs.Machine.{natural-passed}
 use Rattle.desk.proofs.CallTests.{below-range, beyond-range}
 use borrow.Author.Needs.{needs}
 use Rattle.desk.proofs.refuse.no_such_number.Statement.{statement}

@@ -3,7 +3,7 @@ use mathlib.Core.Path.{_≡_, sym, _∙_}
 use mathlib.Core.Bool.{true, false}
 use borrow.Author.Tests.{not-true, not-false}
 use borrow.Author.Needs.{needs}
-use Rattle.axis.specs.Word.{onGrid}
+use Rattle.words.specs.Word.{onGrid}
 use Rattle.desk.proofs.CallTests.{one-passed}
 use Rattle.desk.proofs.refuse.off_grid.Statement.{statement}
 use Rattle.desk.proofs.refuse.off_grid.Tie as tie

@@ -1,6 +1,6 @@
 -- `withdraw::withdraw_passing` meets its contract: a refusal leaves the table, and a granted withdrawal takes the number out. Assumes nothing.
 use mathlib.Core.Path.{sym, ap, _∙_}
-use Rattle.axis.proofs.Machine.{natural-passed}
+use Rattle.words.proofs.Machine.{natural-passed}
 use Rattle.order.specs.Lists.{has}
 use Rattle.leaving.specs.Withdraw.{withdrawn}
 use Rattle.desk.specs.Refusals.{numbersOf, withdrawGives}

@@ -33,8 +33,8 @@ use denote.Triple.Spec.{Meets, tripleOf}
 use denote.Triple.Table.{entered}
 use denote.Triple.Walked.{says, Stays, stay-none-slice, walkOf, goes-none-slice, Walks, ends-at, walked, walk-meets}
 use denote.Exit.{yes}
-use Rattle.axis.specs.Word.{IsWord}
-use Rattle.axis.proofs.Words.{fits-word}
+use Rattle.words.specs.Word.{IsWord}
+use Rattle.words.proofs.Words.{fits-word}
 use Rattle.order.specs.Lists.{All}
 use Rattle.desk.proofs.words.are_words.Key.{name as #are-words}
 use Rattle.desk.proofs.words.are_words as f

@@ -3,8 +3,8 @@ use native.Mathlib.Omega.{arith}
 use mathlib.Core.Path.{_≡_, refl, sym, _∙_}
 use borrow.Author.Needs.{needs}
 use Rattle.grid.specs.Site.{Site}
-use Rattle.axis.proofs.Words.{word-fits, grid-word}
-use Rattle.axis.proofs.Machine.{steps-passed}
+use Rattle.words.proofs.Words.{word-fits, grid-word}
+use Rattle.words.proofs.Machine.{steps-passed}
 use Rattle.grid.proofs.Rects.{place-ext}
 use Rattle.grid.proofs.Site.{SiteOnGrid}
 use Rattle.table.specs.Words.{pointsOf}

@@ -1,6 +1,6 @@
 -- `row::near::place_of` meets its contract: each coordinate as steps. Assumes nothing.
 use borrow.Author.Needs.{needs}
-use Rattle.axis.proofs.Machine.{steps-passed}
+use Rattle.words.proofs.Machine.{steps-passed}
 use Rattle.grid.proofs.Rects.{place-ext}
 use Rattle.row.proofs.near.place_of.Statement.{statement}
 use Rattle.row.proofs.near.place_of.Tie as tie

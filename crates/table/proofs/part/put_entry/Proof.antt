@@ -2,7 +2,7 @@
 use Prim.Native.Nat.{_+_, _*_}
 use native.Mathlib.Omega.{arith}
 use lib.IntN.{pos}
-use Rattle.axis.specs.Word.{wordOf}
+use Rattle.words.specs.Word.{wordOf}
 use Rattle.figures.specs.Figures.{ENTRY}
 use Rattle.table.specs.Page.{entryWords}
 use Rattle.table.proofs.Placed.{five}

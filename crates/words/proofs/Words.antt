@@ -9,8 +9,8 @@ use lib.Dec.{leb}
 use lib.IntN.{ℤ, pos, negsuc}
 use mir.Syntax.{w32}
 use mir.Val.{SFits}
-use Rattle.axis.specs.Word.{IsWord, onGrid, stepsOf, wordOf, natOf}
 use Rattle.axis.specs.Axis.{OnGrid, stepOnGrid}
+use Rattle.words.specs.Word.{IsWord, onGrid, stepsOf, wordOf, natOf}
 
 -- ---- a word is what 32 signed bits hold
 

@@ -1,11 +1,11 @@
--- `axis::border::steps_at` meets its contract: the word that is passed reads back from its bits. Assumes nothing.
+-- `words::border::steps_at` meets its contract: the word that is passed reads back from its bits. Assumes nothing.
 use borrow.Author.Needs.{needs}
 use native.Mathlib.Omega.{arith}
 use lib.IntN.{pos}
 use lib.ListN.{getD}
-use Rattle.axis.proofs.Machine.{steps-passed}
-use Rattle.axis.proofs.border.steps_at.Statement.{statement}
-use Rattle.axis.proofs.border.steps_at.Tie as tie
+use Rattle.words.proofs.Machine.{steps-passed}
+use Rattle.words.proofs.border.steps_at.Statement.{statement}
+use Rattle.words.proofs.border.steps_at.Tie as tie
 
 mul-steps : tie.Need-mul-steps
 mul-steps c = search needs

@@ -1,12 +1,12 @@
--- `axis::border::natural` meets its contract: half the range on from the steps, and round. Assumes nothing.
+-- `words::border::natural` meets its contract: half the range on from the steps, and round. Assumes nothing.
 use mathlib.Core.Path.{_≡_}
 use native.Mathlib.Omega.{arith}
 use borrow.Author.Needs.{needs}
-use Rattle.axis.specs.Word.{stepsOf}
-use Rattle.axis.proofs.Words.{fits-word, steps-below}
-use Rattle.axis.proofs.Machine.{steps-passed, natural-steps}
-use Rattle.axis.proofs.border.natural.Statement.{statement}
-use Rattle.axis.proofs.border.natural.Tie as tie
+use Rattle.words.specs.Word.{stepsOf}
+use Rattle.words.proofs.Words.{fits-word, steps-below}
+use Rattle.words.proofs.Machine.{steps-passed, natural-steps}
+use Rattle.words.proofs.border.natural.Statement.{statement}
+use Rattle.words.proofs.border.natural.Tie as tie
 
 -- the steps are those of the word that was passed
 steps-is : (c : tie.After-steps) → c .steps .result ≡ stepsOf (c .before .args .w)

@@ -1,11 +1,11 @@
--- `axis::border::natural_at` meets its contract: the word that is passed reads back from its bits. Assumes nothing.
+-- `words::border::natural_at` meets its contract: the word that is passed reads back from its bits. Assumes nothing.
 use borrow.Author.Needs.{needs}
 use native.Mathlib.Omega.{arith}
 use lib.IntN.{pos}
 use lib.ListN.{getD}
-use Rattle.axis.proofs.Machine.{natural-passed}
-use Rattle.axis.proofs.border.natural_at.Statement.{statement}
-use Rattle.axis.proofs.border.natural_at.Tie as tie
+use Rattle.words.proofs.Machine.{natural-passed}
+use Rattle.words.proofs.border.natural_at.Statement.{statement}
+use Rattle.words.proofs.border.natural_at.Tie as tie
 
 mul-natural : tie.Need-mul-natural
 mul-natural c = search needs

@@ -1,12 +1,12 @@
--- `axis::border::put_natural` meets its contract: a number below 2³¹ reads back from its bits. Assumes nothing.
+-- `words::border::put_natural` meets its contract: a number below 2³¹ reads back from its bits. Assumes nothing.
 use borrow.Author.Needs.{needs}
 use mathlib.Core.Path.{ap}
 use lib.IntN.{ℤ}
 use lib.ListN.{set}
 use mir.Syntax.{w32}
 use mir.ValLaws.{toZ-pos}
-use Rattle.axis.proofs.border.put_natural.Statement.{statement}
-use Rattle.axis.proofs.border.put_natural.Tie as tie
+use Rattle.words.proofs.border.put_natural.Statement.{statement}
+use Rattle.words.proofs.border.put_natural.Tie as tie
 
 cast-words : tie.Need-cast-words
 cast-words c = search needs

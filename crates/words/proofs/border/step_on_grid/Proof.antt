@@ -1,8 +1,8 @@
--- `axis::border::step_on_grid` meets its contract: the definition's two tests, one after the other. Assumes nothing.
+-- `words::border::step_on_grid` meets its contract: the definition's two tests, one after the other. Assumes nothing.
 use borrow.Author.Needs.{needs}
 use borrow.Author.Tests.{lt-leb, le-leb}
-use Rattle.axis.proofs.border.step_on_grid.Statement.{statement}
-use Rattle.axis.proofs.border.step_on_grid.Tie as tie
+use Rattle.words.proofs.border.step_on_grid.Statement.{statement}
+use Rattle.words.proofs.border.step_on_grid.Tie as tie
 
 sub-if1 : tie.Need-sub-if1
 sub-if1 c = search needs

@@ -1,14 +1,14 @@
--- `axis::border::on_grid` meets its contract: the steps lie within a million of the false origin exactly if the word is on the grid.
+-- `words::border::on_grid` meets its contract: the steps lie within a million of the false origin exactly if the word is on the grid.
 -- Assumes nothing.
 use mathlib.Core.Path.{_≡_, ap, _∙_}
 use mathlib.Core.Bool.{Bool}
 use Prim.Native.Nat.{ℕ}
 use borrow.Author.Needs.{needs}
 use Rattle.axis.specs.Axis.{stepOnGrid}
-use Rattle.axis.proofs.Machine.{steps-passed}
-use Rattle.axis.proofs.Words.{steps-test}
-use Rattle.axis.proofs.border.on_grid.Statement.{statement}
-use Rattle.axis.proofs.border.on_grid.Tie as tie
+use Rattle.words.proofs.Machine.{steps-passed}
+use Rattle.words.proofs.Words.{steps-test}
+use Rattle.words.proofs.border.on_grid.Statement.{statement}
+use Rattle.words.proofs.border.on_grid.Tie as tie
 
 steps-requires : tie.Need-steps-requires
 steps-requires c κs = search needs

@@ -1,10 +1,10 @@
--- `axis::border::steps` meets its contract: the laws of `proofs/Machine.antt` say what the machine reads back at each step. Assumes nothing.
+-- `words::border::steps` meets its contract: the laws of `proofs/Machine.antt` say what the machine reads back at each step. Assumes nothing.
 use native.Mathlib.Omega.{arith}
 use mir.Syntax.{w32}
 use mir.ValLaws.{toZ-ofZ}
-use Rattle.axis.proofs.Machine.{wide, sum-fits, sum-natural, sum-steps}
-use Rattle.axis.proofs.border.steps.Statement.{statement}
-use Rattle.axis.proofs.border.steps.Tie as tie
+use Rattle.words.proofs.Machine.{wide, sum-fits, sum-natural, sum-steps}
+use Rattle.words.proofs.border.steps.Statement.{statement}
+use Rattle.words.proofs.border.steps.Tie as tie
 
 cast-result : tie.Need-cast-result
 cast-result c = rw (toZ-ofZ w32 (c .args .w) (c .fits .w)) (wide (c .args .w) (c .fits .w))

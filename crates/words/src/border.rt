@@ -3,8 +3,8 @@ ghost use mathlib.Core.Path.{_≡_};
 ghost use Prim.Native.Nat.{_<_, _^_};
 ghost use lib.IntN.{pos};
 ghost use lib.ListN.{length, getD, set};
 ghost use Rattle.axis.specs.Axis.{stepOnGrid};
-ghost use Rattle.axis.specs.Word.{stepsOf, wordOf, natOf, onGrid};
+ghost use Rattle.words.specs.Word.{stepsOf, wordOf, natOf, onGrid};
 
 // The false origin, in steps: the word 0. Every word has a place right of step 0.
 const ORIGIN: i64 = 2147483648;

@@ -1,12 +1,12 @@
--- `axis::border::put_steps` meets its contract: the laws of `proofs/Machine.antt` say what the machine reads back at each step. Assumes nothing.
+-- `words::border::put_steps` meets its contract: the laws of `proofs/Machine.antt` say what the machine reads back at each step. Assumes nothing.
 use borrow.Author.Needs.{needs}
 use mathlib.Core.Path.{ap}
 use native.Mathlib.Omega.{arith}
 use lib.IntN.{ℤ}
 use lib.ListN.{set}
-use Rattle.axis.proofs.Machine.{diff-fits, diff-word, word-back}
-use Rattle.axis.proofs.border.put_steps.Statement.{statement}
-use Rattle.axis.proofs.border.put_steps.Tie as tie
+use Rattle.words.proofs.Machine.{diff-fits, diff-word, word-back}
+use Rattle.words.proofs.border.put_steps.Statement.{statement}
+use Rattle.words.proofs.border.put_steps.Tie as tie
 
 cast-words : tie.Need-cast-words
 cast-words c = search needs
