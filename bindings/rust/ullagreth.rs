@@ -210,7 +210,7 @@ pub mod lent {
     /// The first three counts become n, m, o, and zero where the query is refused (but for n of 10); a row of fewer than three stays.
     pub fn query(table: &[i32], x: i32, y: i32, k: i32, list: &mut [Candidate], answers: &mut [u32], counts: &mut [u64]) -> u8 {
         // SAFETY: four slices, and the borrows keep the three that are written apart from each other and from the table. `Candidate` is
-        // `repr(C)` with the fields of row::record::Candidate, which is `repr(C)` too.
+        // `repr(C)` with the fields of record::Candidate, which is `repr(C)` too.
         unsafe {
             ullagreth_query(
                 table.as_ptr(),

@@ -9,8 +9,8 @@ use Rattle.grid.specs.Site.{Site}
 use Rattle.figures.specs.Figures.{MOST}
 use Rattle.table.specs.Words.{Words}
 use Rattle.filter.specs.Query.{Record, Counts, answersFound, countsOf, laidOver}
-use Rattle.row.specs.declared.record.Candidate.{Candidate}
-use Rattle.row.specs.Records.{recordOfCandidate, recordsOf}
+use Rattle.record.specs.declared.Candidate.{Candidate}
+use Rattle.asking.specs.Records.{recordOfCandidate, recordsOf}
 use Rattle.desk.specs.declared.query.Answered.{Answered}
 use Rattle.desk.specs.Refusals.{queryGives}
 use Rattle.desk.specs.Calls.{ifDone, ifFewAnswers, Queried, afterQuery, zeroCounts, onlyN}

@@ -19,11 +19,11 @@ use Rattle.table.specs.Words.{Words}
 use Rattle.change.proofs.Shares.{map-drop}
 use Rattle.filter.specs.Query.{Record, recordsFound, answersFound, laidOver}
 use Rattle.filter.proofs.Rows.{laid-length}
-use Rattle.row.specs.declared.answer.Reply.{Reply}
-use Rattle.row.specs.declared.record.Candidate.{Candidate}
-use Rattle.row.specs.Records.{recordOfCandidate, recordsOf}
-use Rattle.row.specs.Asked.{candidatesFound, Listed}
-use Rattle.row.proofs.Outcome.{records-found}
+use Rattle.asking.specs.declared.answer.Reply.{Reply}
+use Rattle.record.specs.declared.Candidate.{Candidate}
+use Rattle.asking.specs.Records.{recordOfCandidate, recordsOf}
+use Rattle.asking.specs.Asked.{candidatesFound, Listed}
+use Rattle.asking.proofs.Outcome.{records-found}
 use Rattle.desk.specs.Refusals.{queryGives}
 use Rattle.desk.specs.Calls.{afterQuery}
 use Rattle.desk.specs.Lent.{nAlone, allThree, told, refuses, listAfter, Answers}

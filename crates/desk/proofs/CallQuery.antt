@@ -20,8 +20,8 @@ use Rattle.rules.specs.Rules.{wellFormed}
 use Rattle.table.specs.Given.{Line, line, numberGiven, firstOf}
 use Rattle.audit.specs.Check.{wrongLength, malformed, checkGives}
 use Rattle.filter.specs.Query.{Record, Counts, answersFound}
-use Rattle.row.specs.declared.record.Candidate.{Candidate}
-use Rattle.row.specs.Records.{recordsOf}
+use Rattle.record.specs.declared.Candidate.{Candidate}
+use Rattle.asking.specs.Records.{recordsOf}
 use Rattle.desk.specs.declared.query.Answered.{Answered}
 use Rattle.desk.specs.Refusals.{offGrid, noSuchK, queryGives}
 use Rattle.desk.specs.Calls.{Queried, afterQuery}

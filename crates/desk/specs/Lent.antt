@@ -12,10 +12,10 @@ use Rattle.table.specs.Words.{Words}
 use Rattle.table.specs.declared.given.Given.{Given}
 use Rattle.table.specs.declared.given.Given.the-variants.{Done, FewAnswers}
 use Rattle.filter.specs.Query.{Record, laidOver}
-use Rattle.row.specs.declared.answer.Reply.{Reply}
-use Rattle.row.specs.declared.record.Candidate.{Candidate}
-use Rattle.row.specs.Records.{recordsOf}
-use Rattle.row.specs.Asked.{candidatesFound}
+use Rattle.asking.specs.declared.answer.Reply.{Reply}
+use Rattle.record.specs.declared.Candidate.{Candidate}
+use Rattle.asking.specs.Records.{recordsOf}
+use Rattle.asking.specs.Asked.{candidatesFound}
 use Rattle.desk.specs.declared.query.Answered.{Answered}
 use Rattle.desk.specs.Refusals.{queryGives}
 use Rattle.desk.specs.Calls.{ifDone, ifFewAnswers, Queried, afterQuery}

@@ -7,7 +7,7 @@ use Rattle.grid.specs.Site.{Site}
 use Rattle.table.specs.declared.given.Given.{Given}
 use Rattle.table.specs.Words.{Words}
 use Rattle.audit.specs.Check.{checkGives}
-use Rattle.row.specs.declared.record.Candidate.{Candidate}
+use Rattle.record.specs.declared.Candidate.{Candidate}
 use Rattle.desk.specs.declared.query.Answered.{Answered}
 use Rattle.desk.specs.Refusals.{enrolGives, withdrawGives}
 use Rattle.desk.specs.Calls.{afterEnrol, afterWithdraw}

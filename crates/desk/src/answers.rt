@@ -9,7 +9,7 @@ ghost use Rattle.desk.specs.Alone.{AnswersAlone};
 use crate::query::Answered;
 use crate::query::query_passing;
 use figures::Table;
-use row::record::Candidate;
+use record::Candidate;
 
 // Room for as many candidates as a table has points. What stands in it the query does not read.
 fn blank_list() -> [Candidate; Table::MOST] {

@@ -10,7 +10,7 @@ use Rattle.grid.specs.Site.{Site}
 use Rattle.table.specs.Words.{Words}
 use Rattle.table.specs.Given.{numberGiven}
 use Rattle.filter.specs.Query.{Counts, laidOver}
-use Rattle.row.specs.declared.record.Candidate.{Candidate}
+use Rattle.record.specs.declared.Candidate.{Candidate}
 use Rattle.desk.specs.declared.query.Answered.{Answered}
 use Rattle.desk.specs.Calls.{Queried}
 use Rattle.desk.specs.Lent.{Answers}

@@ -10,8 +10,8 @@ use Rattle.grid.specs.Site.{Site}
 use Rattle.table.specs.Words.{Words}
 use Rattle.table.specs.Given.{numberGiven}
 use Rattle.filter.specs.Query.{Counts, laidOver}
-use Rattle.row.specs.declared.record.Candidate.{Candidate}
-use Rattle.row.specs.Records.{recordsOf}
+use Rattle.record.specs.declared.Candidate.{Candidate}
+use Rattle.asking.specs.Records.{recordsOf}
 use Rattle.desk.specs.Calls.{afterQuery}
 use Rattle.desk.specs.Lent.{listAfter}
 

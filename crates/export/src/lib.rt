@@ -11,7 +11,7 @@ ghost use Rattle.export.specs.Sites.{sitesAfter};
 mod sites;
 
 use desk::query::Answered;
-use row::record::Candidate;
+use record::Candidate;
 use table::given::Given;
 use table::given::number_given;
 

@@ -6,9 +6,5 @@ pub mod Visits
 pub mod Taken
 pub mod Turns
 pub mod NodeTurns
-pub mod Below
 pub mod Opening
 pub mod Meaning
-pub mod Testing
-pub mod Inserting
-pub mod Listing

@@ -2,7 +2,7 @@
 use Prim.Native.Nat.{ℕ, zero, suc, _<_}
 use native.Mathlib.Omega.{arith}
 use mathlib.Core.Path.{_≡_, refl, sym, ap, _∙_}
-use mathlib.Core.Bool.{Bool, true, false}
+use mathlib.Core.Bool.{true, false}
 use lib.ListN.{length}
 use borrow.Author.Tests.{eqb-true}
 use Rattle.words.specs.Word.{IsWord}
@@ -10,13 +10,13 @@ use Rattle.grid.specs.declared.place.Place.{Place}
 use Rattle.grid.specs.Place.{RectOnGrid}
 use Rattle.grid.specs.Site.{Site, placeOf}
 use Rattle.grid.proofs.Site.{SiteOnGrid, place-grid}
-use Rattle.order.specs.Lists.{count, join, All}
-use Rattle.order.proofs.Lists.{perm-count, all-mem}
+use Rattle.order.specs.Lists.{All}
+use Rattle.order.proofs.Lists.{all-mem}
 use Rattle.table.specs.declared.node.Entry.{Entry}
 use Rattle.figures.specs.Figures.{LENGTH, LEAST}
 use Rattle.table.specs.Words.{Words, rootOf, pointsOf, isMinusOne, word}
-use Rattle.table.specs.Slots.{slots, levelAt}
-use Rattle.rules.specs.Rules.{leafEntries, isEmpty, wellFormed}
+use Rattle.table.specs.Slots.{levelAt}
+use Rattle.rules.specs.Rules.{isEmpty, wellFormed}
 use Rattle.table.specs.Tree.{Tree, topOf, entryOfTree, leastOf, Stored}
 use Rattle.rules.proofs.Tests.{and-left, and-right, by-test}
 use Rattle.rules.proofs.Joined.{all-map}
@@ -35,18 +35,14 @@ use Rattle.rules.proofs.Reading.{
   held-root,
   held-points,
 }
-use Rattle.rules.proofs.Complete.{leaves-perm}
-use Rattle.rules.proofs.Held.{held-complete}
 use Rattle.rules.proofs.WellFormed.{Held, well-formed-tree}
 use Rattle.filter.specs.declared.seen.Seen.{Seen}
 use Rattle.filter.specs.Walk.{walk}
 use Rattle.filter.specs.Query.{nothing, found}
 use Rattle.filter.specs.Rows.{Rows, listed, laidIn, foundIn, Room, Kept, Noted, Ready}
 use Rattle.filter.specs.Passable.{Passable}
-use Rattle.filter.specs.Test.{below, Boxed}
 use Rattle.filter.proofs.Answers.{found-walk, candidates-few, opened-few, found-empty}
 use Rattle.filter.proofs.Turns.{room-less}
-use Rattle.filter.proofs.Below.{below-tree, boxed-tree}
 
 pub passable-tree : {lo : ℕ} (l : ℕ) (t : Tree l) (ws : Words) → Good lo l t → Stored l ws t → Passable l ws (topOf l t)
 passable-tree zero t ws g st = (top-inside g, rw (stored-entries ws {t = t} g st) (g .points))
@@ -98,7 +94,7 @@ module _ (ws : Words) (long : length ws ≡ LENGTH) (fits : All IsWord ws) (w : 
       by-test (isEmpty ws) (λ e. absurd (omega (arith, eqb-true (pointsOf ws) 0 (and-left _ _ (and-right (isMinusOne (word ws 0)) _ e))))) (λ e. e)
 
   module _ (e : isEmpty ws ≡ false) where
-    held : Held ws
+    pub held : Held ws
     held = well-formed-tree ws long fits w e
 
     held-level : levelAt ws (rootOf ws) ≡ held .level
@@ -106,25 +102,14 @@ module _ (ws : Words) (long : length ws ≡ LENGTH) (fits : All IsWord ws) (w : 
 
     -- from the root, and the level there
     module _ (root level : ℕ) (isRoot : root ≡ rootOf ws) (isLevel : level ≡ levelAt ws root) where
-      at-level : level ≡ held .level
+      pub at-level : level ≡ held .level
       at-level = isLevel ∙ ap (levelAt ws) isRoot ∙ held-level
 
-      at-root : root ≡ topOf (held .level) (held .tree)
+      pub at-root : root ≡ topOf (held .level) (held .tree)
       at-root = isRoot ∙ held-root (held .holds)
 
       pub root-passable : Passable level ws root
       root-passable = rw (at-level, at-root) (passable-tree (held .level) (held .tree) ws (good-root (held .sound)) (held .holds .stored))
-
-      pub root-boxed : Boxed level ws root
-      root-boxed = rw (at-level, at-root) (boxed-tree (held .level) (held .tree) ws (good-root (held .sound)) (held .holds .stored))
-
-      -- the points below the root are those of all leaves
-      pub root-count : (P : Entry → Bool) → count P (below level ws root) ≡ count P (join (leafEntries ws) slots)
-      root-count P =
-          ap (λ (l : ℕ). count P (below l ws root)) at-level
-          ∙ ap (λ (s : ℕ). count P (below (held .level) ws s)) at-root
-          ∙ ap (count P) (below-tree (held .level) (held .tree) ws (good-root (held .sound)) (held .holds .stored))
-          ∙ perm-count (leaves-perm (held-complete (held .holds) (held .sound))) P
 
       module _ (q : Site) (g : SiteOnGrid q) (k : ℕ) (p : Place) (isPlace : p ≡ placeOf q) (r : Rows) where
         -- the walk from the root is the whole

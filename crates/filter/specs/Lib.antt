@@ -3,4 +3,3 @@ pub mod Walk
 pub mod Query
 pub mod Rows
 pub mod Passable
-pub mod Test

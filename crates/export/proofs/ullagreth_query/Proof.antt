@@ -41,8 +41,8 @@ use denote.Triple.Walked.{says, Stays, gave-slice, stay-none-slice, stay-none, w
 use denote.Exit.{yes}
 use Rattle.grid.specs.Site.{Site}
 use Rattle.table.specs.Given.{numberGiven}
-use Rattle.row.specs.declared.record.Candidate.{Candidate}
-use Rattle.row.proofs.record.Candidate as C′
+use Rattle.record.specs.declared.Candidate.{Candidate}
+use Rattle.record.proofs.Candidate as C′
 use Rattle.desk.specs.declared.query.Answered.{Answered}
 use Rattle.desk.specs.Refusals.{site}
 use Rattle.desk.specs.Lent.{Answers}

@@ -47,11 +47,11 @@ use denote.Exit.{yes}
 use Rattle.grid.specs.Site.{Site}
 use Rattle.figures.specs.Figures.{LENGTH}
 use Rattle.rules.specs.Rules.{wellFormed}
-use Rattle.row.specs.declared.record.Candidate.{Candidate}
-use Rattle.row.proofs.record.Candidate as C′
-use Rattle.row.proofs.record.Candidate.Laws as C″
-use Rattle.row.proofs.LentRow.{Whole, laid, taken, counted, lends, ends}
-use Rattle.row.proofs.WalkSteps.{asks-nothing}
+use Rattle.record.specs.declared.Candidate.{Candidate}
+use Rattle.record.proofs.Candidate as C′
+use Rattle.record.proofs.Candidate.Laws as C″
+use Rattle.walks.proofs.LentRow.{Whole, laid, taken, counted, lends, ends}
+use Rattle.walks.proofs.WalkSteps.{asks-nothing}
 use Rattle.desk.specs.declared.query.Answered.{Answered}
 use Rattle.desk.specs.Refusals.{site}
 use Rattle.desk.specs.Lent.{Answers}

@@ -46,9 +46,9 @@ use Rattle.grid.specs.Site.{Site}
 use Rattle.table.specs.declared.given.Given.{Given}
 use Rattle.table.proofs.given.Given as G
 use Rattle.table.proofs.given.Given.Laws as G′
-use Rattle.row.specs.declared.record.Candidate.{Candidate}
-use Rattle.row.proofs.record.Candidate as C′
-use Rattle.row.proofs.WalkSteps.{env, lets-go}
+use Rattle.record.specs.declared.Candidate.{Candidate}
+use Rattle.record.proofs.Candidate as C′
+use Rattle.walks.proofs.WalkSteps.{env, lets-go}
 use Rattle.desk.specs.declared.query.Answered.{Answered}
 use Rattle.desk.specs.Refusals.{site}
 use Rattle.desk.specs.Lent.{refuses, Answers}

@@ -32,7 +32,7 @@ use denote.Triple.Walked.{says, needs, Stays, stay-none, walkOf, goes-none, ends
 use denote.Exit.{yes}
 use Rattle.sheet.specs.Marks.{lineOf}
 use Rattle.sheet.specs.declared.reader.Reader.{Reader}
-use Rattle.sheet.proofs.Walks.{answers, closes}
+use Rattle.walks.proofs.Ends.{answers, closes}
 use Rattle.sheet.proofs.Reading.{values, ReaderT, D, L, Whole, Parts, token, parted}
 use Rattle.sheet.proofs.reader.Reader.Laws as T′
 use Rattle.sheet.proofs.lines.line_at as lineat

@@ -30,7 +30,7 @@ use denote.Triple.Table.{cited}
 use denote.Triple.Walked.{says, walkOf, ends-at}
 use Rattle.sheet.specs.Marks.{nextOf}
 use Rattle.sheet.specs.declared.reader.Reader.{Reader}
-use Rattle.sheet.proofs.Walks.{answers, closes}
+use Rattle.walks.proofs.Ends.{answers, closes}
 use Rattle.sheet.proofs.Reading.{values, ReaderT, plain-stays, plain-goes, plain-vals, plain-tells, Parts, token, Entered, ReaderAt, Made, to-reader, asks-reader, typed, spelled, place}
 use Rattle.sheet.proofs.reader.Reader.Laws as T′
 use Rattle.sheet.proofs.reader.reader_at as readerat

@@ -31,7 +31,7 @@ use denote.Triple.Walked.{says, Stays, stay-none, walkOf, goes-none, ends-at}
 use denote.Exit.{yes}
 use Rattle.sheet.specs.Marks.{nextOf}
 use Rattle.sheet.specs.declared.reader.Reader.{Reader}
-use Rattle.sheet.proofs.Walks.{answers, closes}
+use Rattle.walks.proofs.Ends.{answers, closes}
 use Rattle.sheet.proofs.Reading.{values, ReaderT, D, L, Whole, Parts, token, parted, moved}
 use Rattle.sheet.proofs.reader.Reader.Laws as T′
 use Rattle.sheet.proofs.lines.next_at as nextat

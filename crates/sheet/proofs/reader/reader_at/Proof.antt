@@ -21,7 +21,7 @@ use denote.Builtin.{u8}
 use denote.Slice.{ShrSlice, shr-slice-lawful}
 use denote.Triple.Walked.{says, walkOf, ends-at}
 use Rattle.sheet.specs.declared.reader.Reader.{Reader}
-use Rattle.sheet.proofs.Walks.{closes}
+use Rattle.walks.proofs.Ends.{closes}
 use Rattle.sheet.proofs.Reading.{values, plain-stays, plain-goes, plain-vals, plain-tells, Parts, token, Entered, made}
 use Rattle.sheet.proofs.reader.Reader.Laws as T′
 use Rattle.sheet.proofs.reader.reader_at.Key.{name as #reader-at}

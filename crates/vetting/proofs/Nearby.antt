@@ -1,0 +1,39 @@
+-- The loop that counts the records that are nearer: what stands after i turns. Assumes nothing.
+use Prim.Native.Nat.{ℕ, _+_, _≤_, _<_}
+use native.Mathlib.Omega.{arith}
+use native.Mathlib.Numerals.{add-one}
+use mathlib.Core.Path.{_≡_, refl, ap, _∙_}
+use mathlib.Core.List.{List, [], _∷_}
+use lib.ListN.{length, getD, take}
+use lib.Seq.{take-suc}
+use Rattle.order.specs.Lists.{one, count}
+use Rattle.order.proofs.Lists.{one-most, count-append}
+use Rattle.record.specs.declared.Candidate.{Candidate}
+use Rattle.record.specs.Blank.{none}
+use Rattle.vetting.specs.Tested.{nearerAs, nearerAmong}
+
+module _ (cs : List Candidate) (c : Candidate) where
+  -- after i turns n are counted
+  pub record Counted (i n : ℕ) : Type 0 where
+    pub count : n ≡ nearerAmong (take i cs) c
+    pub few : n ≤ i
+
+  none-counted : 0 ≡ nearerAmong [] c
+  unfolding nearerAmong
+  none-counted = refl
+
+  pub counted-none : Counted 0 0
+  counted-none = record { count = none-counted; few = omega arith }
+
+  among-more : (i : ℕ) → i < length cs → nearerAmong (take (i + 1) cs) c ≡ nearerAmong (take i cs) c + one (nearerAs c (getD cs i none))
+  unfolding nearerAmong
+  among-more i h =
+      let d = getD cs i none in
+      let e = ap (λ (j : ℕ). count (nearerAs c) (take j cs)) (add-one i) ∙ ap (count (nearerAs c)) (take-suc cs i none h) in
+      omega (arith, e, count-append (nearerAs c) (take i cs) (d ∷ []))
+
+  pub counted-next : (i n r : ℕ) → Counted i n → i < length cs → r ≡ one (nearerAs c (getD cs i none)) → Counted (i + 1) (n + r)
+  counted-next i n r h l e = record {
+    count = omega (arith, h .count, e, among-more i l);
+    few = omega (arith, h .few, e, one-most (nearerAs c (getD cs i none)));
+  }

@@ -1,0 +1,62 @@
+-- The final test of the records, and what is asked for it.
+use Prim.Native.Nat.{ℕ, _≤_, _<_}
+use mathlib.Core.Path.{_≡_}
+use mathlib.Core.Bool.{Bool, true, false}
+use mathlib.Core.List.{List, map}
+use lib.ListN.{length, getD, take}
+use Rattle.words.specs.Word.{IsWord, stepsOf}
+use Rattle.grid.specs.declared.place.Place.{Place}
+use Rattle.grid.specs.Nearer.{nearer}
+use Rattle.grid.specs.Place.{spotOf, dist²}
+use Rattle.order.specs.Lists.{All, filter, count}
+use Rattle.table.specs.declared.node.Entry.{Entry}
+use Rattle.figures.specs.Figures.{LENGTH}
+use Rattle.table.specs.Words.{Words}
+use Rattle.table.specs.Stations.{isPoint}
+use Rattle.rules.specs.Rules.{wellFormed}
+use Rattle.vetting.specs.Test.{passes}
+use Rattle.record.specs.declared.Candidate.{Candidate}
+use Rattle.record.specs.Blank.{none}
+
+-- the candidate's place
+abbrev pub placeOf : Candidate → Place
+placeOf c = record { x = stepsOf (c .x); y = stepsOf (c .y) }
+
+-- the candidate, as an entry of a leaf
+abbrev pub entryOf : Candidate → Entry
+entryOf c = record { reference = c .number; rect = spotOf (placeOf c) }
+
+-- the candidate passes the final test
+unfoldable pub passesAs : Words → ℕ → Candidate → Bool
+passesAs ws k c = passes ws (c .number) (placeOf c) (c .square) k
+
+-- d is nearer to the candidate c than q is
+unfoldable pub nearerAs : Candidate → Candidate → Bool
+nearerAs c d = nearer (dist² (placeOf d) (placeOf c)) (c .square)
+
+-- how many of the candidates are
+unfoldable pub nearerAmong : List Candidate → Candidate → ℕ
+nearerAmong cs c = count (nearerAs c) cs
+
+-- the numbers of those that pass, in the order found
+unfoldable pub numbersPassing : Words → ℕ → List Candidate → List ℕ
+numbersPassing ws k cs = map (λ c. c .number) (filter (passesAs ws k) cs)
+
+-- the table is well formed
+pub record Checked (ws : Words) : Type 0 where
+  pub long : length ws ≡ LENGTH
+  pub words : All IsWord ws
+  pub rules : wellFormed ws ≡ true
+
+-- the first m records are candidates
+pub record Readable (cs : List Candidate) (m : ℕ) : Type 0 where
+  pub room : m ≤ length cs
+  pub points : (i : ℕ) → i < m → isPoint (entryOf (getD cs i none)) ≡ true
+
+-- they can be tested, and as many numbers have room
+pub record Keepable (ws : Words) (cs : List Candidate) (k m free : ℕ) : Type 0 where
+  pub table : Checked ws
+  pub list : Readable cs m
+  -- a candidate with more than k of them nearer does not pass: all but one of these are others
+  pub crowded : (i : ℕ) → i < m → k < nearerAmong (take m cs) (getD cs i none) → passesAs ws k (getD cs i none) ≡ false
+  pub places : m ≤ free

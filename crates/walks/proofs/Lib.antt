@@ -1,0 +1,5 @@
+pub mod Again
+pub mod Ends
+pub mod LentRow
+pub mod Reshared
+pub mod WalkSteps
