@@ -1,11 +1,11 @@
 -- 01, "Numbers given back", lines 1 and 2: what the table check gives.
 use mathlib.Core.Bool.{Bool, not}
-use mathlib.Core.List.{[], _∷_}
+use mathlib.Core.List.{List, [], _∷_}
 use lib.Dec.{eqb}
 use lib.ListN.{length}
 use Rattle.table.specs.declared.given.Given.{Given}
 use Rattle.table.specs.declared.given.Given.the-variants.{WrongLength, NotWellFormed}
-use Rattle.table.specs.Given.{line, firstOf}
+use Rattle.table.specs.Given.{Line, line, firstOf}
 use Rattle.figures.specs.Figures.{LENGTH}
 use Rattle.table.specs.Words.{Words}
 use Rattle.rules.specs.Rules.{wellFormed}
@@ -19,5 +19,8 @@ abbrev pub malformed : Words → Bool
 malformed ws = not (wellFormed ws)
 
 -- table check 1, 2
+abbrev pub checkLines : Words → List Line
+checkLines ws = line (wrongLength ws) WrongLength ∷ line (malformed ws) NotWellFormed ∷ []
+
 unfoldable pub checkGives : Words → Given
-checkGives ws = firstOf (line (wrongLength ws) WrongLength ∷ line (malformed ws) NotWellFormed ∷ [])
+checkGives ws = firstOf (checkLines ws)

@@ -11,12 +11,13 @@ use Rattle.table.specs.Words.{Words}
 use Rattle.table.specs.Given.{numberGiven}
 use Rattle.filter.specs.Query.{answersFound}
 use Rattle.words.specs.Word.{natOf}
-use Rattle.desk.specs.declared.query.Answered.{Answered}
-use Rattle.desk.specs.Refusals.{site, enrolGives, withdrawGives, queryGives}
-use Rattle.desk.specs.Calls.{ifDone, afterEnrol, afterWithdraw, Queried, afterQuery}
+use Rattle.refusals.specs.declared.answered.Answered.{Answered}
+use Rattle.refusals.specs.Refusals.{site, enrolGives, withdrawGives, queryGives}
+use Rattle.refusals.specs.Cases.{ifDone}
+use Rattle.desk.specs.Calls.{afterEnrol, afterWithdraw, Queried, afterQuery}
 use Rattle.desk.specs.Lent.{queried}
 use Rattle.desk.specs.Alone.{blankList, AnswersAlone}
-use Rattle.desk.proofs.Given.{if-refused}
+use Rattle.refusals.proofs.Given.{if-refused}
 use Rattle.desk.proofs.Granted.{query-granted}
 use Rattle.desk.proofs.CallQuery.{queried-ext}
 use Rattle.sheet.specs.Bytes.{Bytes}

@@ -8,11 +8,12 @@ use Rattle.words.specs.Word.{natOf}
 use Rattle.table.specs.declared.given.Given.{Given}
 use Rattle.table.specs.Given.{numberGiven}
 use Rattle.filter.specs.Query.{answersFound, laidOver}
-use Rattle.desk.specs.Refusals.{site, queryGives}
-use Rattle.desk.specs.Calls.{ifDone, Queried, afterQuery}
+use Rattle.refusals.specs.Refusals.{site, queryGives}
+use Rattle.refusals.specs.Cases.{ifDone}
+use Rattle.desk.specs.Calls.{Queried, afterQuery}
 use Rattle.desk.specs.Alone.{blankList}
 use Rattle.desk.specs.Demands.{Passing, enrol, withdraw}
-use Rattle.desk.proofs.Given.{by-given}
+use Rattle.refusals.proofs.Given.{by-given}
 use Rattle.desk.proofs.Granted.{query-granted}
 use Rattle.desk.proofs.Kept.{call-kept}
 use Rattle.desk.proofs.Finds.{laid-length}

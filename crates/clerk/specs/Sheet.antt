@@ -9,8 +9,9 @@ use Rattle.table.specs.Words.{Words}
 use Rattle.table.specs.declared.given.Given.{Given}
 use Rattle.table.specs.declared.given.Given.the-variants as given
 use Rattle.table.specs.Given.{numberGiven}
-use Rattle.desk.specs.Refusals.{site, enrolGives, withdrawGives}
-use Rattle.desk.specs.Calls.{ifDone, afterEnrol, afterWithdraw, Queried, afterQuery}
+use Rattle.refusals.specs.Refusals.{site, enrolGives, withdrawGives}
+use Rattle.refusals.specs.Cases.{ifDone}
+use Rattle.desk.specs.Calls.{afterEnrol, afterWithdraw, Queried, afterQuery}
 use Rattle.desk.specs.Alone.{blankList}
 use Rattle.table.specs.Empty.{emptyTable}
 use Rattle.sheet.specs.Bytes.{Bytes, linesOf}

@@ -11,9 +11,10 @@ use Rattle.table.specs.Words.{Words}
 use Rattle.filter.specs.Query.{Record, Counts, answersFound, countsOf, laidOver}
 use Rattle.record.specs.declared.Candidate.{Candidate}
 use Rattle.asking.specs.Records.{recordOfCandidate, recordsOf}
-use Rattle.desk.specs.declared.query.Answered.{Answered}
-use Rattle.desk.specs.Refusals.{queryGives}
-use Rattle.desk.specs.Calls.{ifDone, ifFewAnswers, Queried, afterQuery, zeroCounts, onlyN}
+use Rattle.refusals.specs.declared.answered.Answered.{Answered}
+use Rattle.refusals.specs.Refusals.{queryGives}
+use Rattle.refusals.specs.Cases.{ifDone, ifFewAnswers}
+use Rattle.desk.specs.Calls.{Queried, afterQuery, zeroCounts, onlyN}
 use Rattle.desk.specs.Lent.{Answers}
 use Rattle.desk.specs.Alone.{blankRecord, blankList, AnswersAlone, AnyList}
 use Rattle.desk.proofs.CallQuery.{answered-ext}

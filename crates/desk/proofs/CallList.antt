@@ -24,11 +24,14 @@ use Rattle.record.specs.declared.Candidate.{Candidate}
 use Rattle.asking.specs.Records.{recordOfCandidate, recordsOf}
 use Rattle.asking.specs.Asked.{candidatesFound, Listed}
 use Rattle.asking.proofs.Outcome.{records-found}
-use Rattle.desk.specs.Refusals.{queryGives}
+use Rattle.refusals.specs.Refusals.{queryGives}
 use Rattle.desk.specs.Calls.{afterQuery}
-use Rattle.desk.specs.Lent.{nAlone, allThree, told, refuses, listAfter, Answers}
-use Rattle.desk.proofs.Given.{by-given, if-refused, if-not-few}
-use Rattle.desk.proofs.CallQuery.{answersTold, query-early, not-few, query-late, after-refused, queried-ext, counts-ext}
+use Rattle.refusals.specs.Cases.{refuses}
+use Rattle.refusals.specs.Told.{nAlone, allThree, told}
+use Rattle.desk.specs.Lent.{listAfter, Answers}
+use Rattle.refusals.proofs.Given.{by-given, if-refused, if-not-few}
+use Rattle.refusals.proofs.QueryOrder.{answersTold, query-early, not-few, query-late}
+use Rattle.desk.proofs.CallQuery.{after-refused, queried-ext, counts-ext}
 
 true-not-false : true ≡ false → ⊥
 true-not-false e =

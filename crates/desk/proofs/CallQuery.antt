@@ -1,109 +1,21 @@
--- The lines of a query in their order, on a table that passes the check; and that a query's promise permits one outcome only. By the tests of the lines. Assumes nothing.
+-- What a refused query leaves behind; and that a query's promise permits one outcome only. By the definition of a query. Assumes nothing.
 use Prim.Native.Nat.{ℕ}
-use native.Mathlib.Omega.{arith}
 use mathlib.Core.Path.{_≡_, refl, sym, ap, _∙_}
-use mathlib.Core.Bool.{Bool, true, false, cond}
-use mathlib.Core.List.{List, [], _∷_, _++_}
-use lib.Dec.{ltb}
+use mathlib.Core.List.{List}
 use lib.IntN.{ℤ}
 use lib.ListN.{length}
-use borrow.Author.Tests.{eq-eqb, le-ltb}
-use Rattle.words.specs.Word.{natOf}
 use Rattle.grid.specs.Site.{Site}
-use Rattle.order.specs.Lists.{All}
-use Rattle.order.proofs.Lists.{by-bool}
 use Rattle.table.specs.declared.given.Given.{Given}
-use Rattle.table.specs.declared.given.Given.the-variants.{Done, WrongLength, NotWellFormed, OffGrid, NoSuchK, FewCandidates, FewAnswers}
-use Rattle.figures.specs.Figures.{LENGTH}
-use Rattle.table.specs.Words.{Words, pointsOf}
-use Rattle.rules.specs.Rules.{wellFormed}
-use Rattle.table.specs.Given.{Line, line, numberGiven, firstOf}
-use Rattle.audit.specs.Check.{wrongLength, malformed, checkGives}
-use Rattle.filter.specs.Query.{Record, Counts, answersFound}
+use Rattle.table.specs.declared.given.Given.the-variants.{Done, FewAnswers}
+use Rattle.table.specs.Words.{Words}
+use Rattle.filter.specs.Query.{Record, Counts}
 use Rattle.record.specs.declared.Candidate.{Candidate}
 use Rattle.asking.specs.Records.{recordsOf}
-use Rattle.desk.specs.declared.query.Answered.{Answered}
-use Rattle.desk.specs.Refusals.{offGrid, noSuchK, queryGives}
+use Rattle.refusals.specs.declared.answered.Answered.{Answered}
+use Rattle.refusals.specs.Refusals.{queryGives}
 use Rattle.desk.specs.Calls.{Queried, afterQuery}
 use Rattle.desk.specs.Lent.{queried, Answers}
-use Rattle.desk.proofs.Given.{if-refused, if-not-few, passed-before}
-use Rattle.desk.proofs.CallOrder.{by-two}
-
--- ---- the order
-
-module _ (ws : Words) (long : length ws ≡ LENGTH) (rules : wellFormed ws ≡ true) (q : Site) (k : ℤ) (room places : ℕ) where
-  pub query-4 : offGrid q ≡ true → queryGives ws q k room places ≡ OffGrid
-  unfolding queryGives
-  query-4 a = rw (eq-eqb (length ws) LENGTH long, rules, a)
-
-  pub query-5 : offGrid q ≡ false → noSuchK k ≡ true → queryGives ws q k room places ≡ NoSuchK
-  unfolding queryGives
-  query-5 a b = rw (eq-eqb (length ws) LENGTH long, rules, a, b)
-
-  pub query-9 : offGrid q ≡ false → noSuchK k ≡ false → ltb room (pointsOf ws) ≡ true → queryGives ws q k room places ≡ FewCandidates
-  unfolding queryGives
-  query-9 a b d = rw (eq-eqb (length ws) LENGTH long, rules, a, b, d)
-
-  -- then the answer list decides
-  pub query-last : offGrid q ≡ false → noSuchK k ≡ false → ltb room (pointsOf ws) ≡ false
-      → queryGives ws q k room places ≡ cond (ltb places (length (answersFound ws q (natOf k)))) FewAnswers Done
-  unfolding queryGives
-  query-last a b d = rw (eq-eqb (length ws) LENGTH long, rules, a, b, d)
-
--- ---- the lines before the last
-
-abbrev before10 : Words → Site → ℤ → ℕ → List Line
-before10 ws q k room =
-    line (wrongLength ws) WrongLength
-    ∷ line (malformed ws) NotWellFormed
-    ∷ line (offGrid q) OffGrid
-    ∷ line (noSuchK k) NoSuchK
-    ∷ line (ltb room (pointsOf ws)) FewCandidates
-    ∷ []
-
--- what is refused before the last line is refused whatever that says
-early : (ls : List Line) (b : Bool) {g : Given} → g ≡ firstOf (ls ++ line false FewAnswers ∷ []) → (g ≡ Done → ⊥) → g ≡ firstOf (ls ++ line b FewAnswers ∷ [])
-early [] b e d = absurd (d e)
-early (l ∷ ls) b {g} e d =
-    by-bool (λ t. g ≡ cond t (l .gives) (firstOf (ls ++ line false FewAnswers ∷ [])) → g ≡ cond t (l .gives) (firstOf (ls ++ line b FewAnswers ∷ [])))
-    (l .holds) (λ t h. h) (λ t h. early ls b h d) e
-
--- and what passes all before it, it decides
-all-before : (ls ms : List Line) → All (λ l. l .holds ≡ false) ls → firstOf (ls ++ ms) ≡ firstOf ms
-all-before [] ms h = refl
-all-before (l ∷ ls) ms h = rw (h .0) (all-before ls ms (h .1))
-
--- how many answers there are
-abbrev pub answersTold : Words → Site → ℤ → ℕ
-answersTold ws q k = length (answersFound ws q (natOf k))
-
-module _ (ws : Words) (q : Site) (k : ℤ) (room : ℕ) where
-  -- with room for all answers the last line is passed
-  enough : queryGives ws q k room (answersTold ws q k) ≡ firstOf (before10 ws q k room ++ line false FewAnswers ∷ [])
-  unfolding queryGives
-  enough = ap (λ b. firstOf (before10 ws q k room ++ line b FewAnswers ∷ [])) (le-ltb (answersTold ws q k) (answersTold ws q k) (omega arith))
-
-  module _ {g : Given} (e : g ≡ queryGives ws q k room (answersTold ws q k)) where
-    pub query-early : (g ≡ Done → ⊥) → (places : ℕ) → g ≡ queryGives ws q k room places
-    unfolding queryGives
-    query-early d places = early (before10 ws q k room) (ltb places (answersTold ws q k)) (e ∙ enough) d
-
-    pub not-few : g ≡ FewAnswers → ⊥
-    not-few f =
-        let h = passed-before FewAnswers (before10 ws q k room) (line false FewAnswers ∷ []) refl (sym enough ∙ sym e ∙ f) .1 in
-        let z : _≡_ {A = ℕ} 0 10 = ap numberGiven h in
-        omega arith
-
-    pub query-late : g ≡ Done → (places : ℕ) → queryGives ws q k room places ≡ cond (ltb places (answersTold ws q k)) FewAnswers Done
-    unfolding queryGives
-    query-late d places =
-        all-before (before10 ws q k room) (line (ltb places (answersTold ws q k)) FewAnswers ∷ [])
-        (passed-before Done (before10 ws q k room) (line false FewAnswers ∷ []) refl (sym enough ∙ sym e ∙ d) .0)
-
-  -- what the check refuses, the query refuses
-  pub query-first : {g : Given} → g ≡ checkGives ws → (g ≡ Done → ⊥) → (places : ℕ) → g ≡ queryGives ws q k room places
-  unfolding checkGives queryGives
-  query-first e d places = sym (by-two (wrongLength ws) (malformed ws) e d _)
+use Rattle.refusals.proofs.Given.{if-refused, if-not-few}
 
 -- ---- what a refusal leaves behind
 

@@ -16,17 +16,18 @@ use Rattle.order.specs.Lists.{All}
 use Rattle.table.specs.declared.given.Given.{Given}
 use Rattle.table.specs.declared.given.Given.the-variants.{Done, FewAnswers}
 use Rattle.table.specs.Given.{Line, numberGiven, firstOf}
-use Rattle.audit.specs.Check.{checkGives}
+use Rattle.audit.specs.Check.{checkLines, checkGives}
 use Rattle.table.specs.Words.{Words}
 use Rattle.table.specs.Stations.{Station, stations}
 use Rattle.joining.specs.Enrol.{enrolled}
 use Rattle.leaving.specs.Withdraw.{withdrawn}
 use Rattle.filter.specs.Query.{Record, Counts, countsOf, recordsFound, answersFound, laidOver}
 use Rattle.filter.proofs.Rising.{perm-filter}
-use Rattle.desk.specs.Refusals.{checkLines, enrolLines, enrolGives, withdrawLines, withdrawGives, queryLines, queryGives}
-use Rattle.desk.specs.Calls.{ifDone, ifFewAnswers, pointEntry, afterEnrol, afterWithdraw, afterQuery, zeroCounts, onlyN}
+use Rattle.refusals.specs.Refusals.{enrolLines, enrolGives, withdrawLines, withdrawGives, queryLines, queryGives}
+use Rattle.refusals.specs.Cases.{ifDone, ifFewAnswers}
+use Rattle.desk.specs.Calls.{pointEntry, afterEnrol, afterWithdraw, afterQuery, zeroCounts, onlyN}
 use Rattle.desk.specs.Demands.{Passing, First, Exactly, Demand1, Granted, Demand2, Call, enrol, withdraw, look, tableAfter, pointsAfter, pointsAfterAll, Demand3, AnyCalls}
-use Rattle.desk.proofs.Given.{if-refused, if-not-few, by-done}
+use Rattle.refusals.proofs.Given.{if-refused, if-not-few, by-done}
 use Rattle.desk.proofs.Granted.{full-points}
 use Rattle.desk.proofs.Passing.{passing-points, passing-few, passing-nodes, passing-levels}
 use Rattle.desk.proofs.Kept.{call-kept}

@@ -27,10 +27,11 @@ use Rattle.filter.specs.Walk.{Found}
 use Rattle.filter.specs.Query.{Record, recordOf, found, recordsFound, answersFound, laidOver}
 use Rattle.filter.proofs.Answers.{answers-right, candidates-few, candidates-points, opened-few, found-empty, answers-empty, answer-empty}
 use Rattle.filter.proofs.Meaning.{count-most, few-all-answer, answering-in, here-answers}
-use Rattle.desk.specs.Refusals.{numbersOf, queryGives}
-use Rattle.desk.specs.Calls.{ifDone, ifFewAnswers, afterQuery}
+use Rattle.refusals.specs.Refusals.{numbersOf, queryGives}
+use Rattle.refusals.specs.Cases.{ifDone, ifFewAnswers}
+use Rattle.desk.specs.Calls.{afterQuery}
 use Rattle.desk.specs.Demands.{Passing}
-use Rattle.desk.proofs.Given.{by-given}
+use Rattle.refusals.proofs.Given.{by-given}
 use Rattle.desk.proofs.Granted.{Within, query-granted, query-short, queryLines, passing-query}
 use Rattle.desk.proofs.Passing.{by-table, passing-points, passing-few}
 

@@ -32,9 +32,9 @@ use Rattle.table.specs.Given.{Line, line, firstOf}
 use Rattle.audit.specs.Check.{wrongLength, malformed, checkGives}
 use Rattle.filter.specs.Query.{answersFound}
 use Rattle.rules.proofs.Tests.{and-left, and-right, between-true}
-use Rattle.desk.specs.Refusals.{noSuchNumber, offGrid, noSuchK, isEnrolled, isFull, enrolGives, withdrawGives, queryGives}
+use Rattle.refusals.specs.Refusals.{noSuchNumber, offGrid, noSuchK, isEnrolled, isFull, enrolGives, withdrawGives, queryGives}
 use Rattle.desk.specs.Demands.{Passing}
-use Rattle.desk.proofs.Given.{passed-before, last-holds, all-passed}
+use Rattle.refusals.proofs.Given.{passed-before, last-holds, all-passed}
 
 -- ---- a line that is passed
 

@@ -1,12 +1,9 @@
-pub mod Given
 pub mod Granted
 pub mod Passing
 pub mod Kept
 pub mod Finds
 pub mod Demands
-pub mod CallTests
-pub mod CallNumbers
-pub mod CallOrder
+pub mod CallAfter
 pub mod CallQuery
 pub mod CallList
 pub mod CallAlone

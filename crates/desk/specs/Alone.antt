@@ -8,7 +8,7 @@ use Rattle.grid.specs.Site.{Site}
 use Rattle.figures.specs.Figures.{MOST}
 use Rattle.table.specs.Words.{Words}
 use Rattle.filter.specs.Query.{Record}
-use Rattle.desk.specs.declared.query.Answered.{Answered}
+use Rattle.refusals.specs.declared.answered.Answered.{Answered}
 use Rattle.desk.specs.Calls.{Queried, afterQuery}
 
 abbrev pub blankRecord : Record

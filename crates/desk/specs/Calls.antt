@@ -3,7 +3,7 @@ use Prim.Native.Nat.{ℕ}
 use mathlib.Core.List.{List}
 use lib.IntN.{ℤ}
 use lib.ListN.{length}
-use Rattle.words.specs.Word.{stepsOf, natOf}
+use Rattle.words.specs.Word.{natOf}
 use Rattle.grid.specs.Site.{Site, placeOf}
 use Rattle.grid.specs.Place.{spotOf}
 use Rattle.table.specs.declared.node.Entry.{Entry}
@@ -12,54 +12,8 @@ use Rattle.joining.specs.Enrol.{enrolled}
 use Rattle.leaving.specs.Withdraw.{withdrawn}
 use Rattle.filter.specs.Query.{Record, Counts, recordsFound, answersFound, countsOf, laidOver}
 use Rattle.table.specs.declared.given.Given.{Given}
-use Rattle.table.specs.declared.given.Given.the-variants.{
-  Done,
-  WrongLength,
-  NotWellFormed,
-  NoSuchNumber,
-  OffGrid,
-  NoSuchK,
-  AlreadyEnrolled,
-  Full,
-  NotEnrolled,
-  FewCandidates,
-  FewAnswers,
-  Misshapen,
-  SheetTooLong,
-}
-use Rattle.desk.specs.Refusals.{enrolGives, withdrawGives, queryGives}
-
--- one thing if the call is granted, another if it is refused
-abbrev pub ifDone : {A : Type 0} → Given → A → A → A
-ifDone Done a b = a
-ifDone WrongLength a b = b
-ifDone NotWellFormed a b = b
-ifDone NoSuchNumber a b = b
-ifDone OffGrid a b = b
-ifDone NoSuchK a b = b
-ifDone AlreadyEnrolled a b = b
-ifDone Full a b = b
-ifDone NotEnrolled a b = b
-ifDone FewCandidates a b = b
-ifDone FewAnswers a b = b
-ifDone Misshapen a b = b
-ifDone SheetTooLong a b = b
-
--- one thing if the query is refused with 10, another otherwise
-abbrev pub ifFewAnswers : {A : Type 0} → Given → A → A → A
-ifFewAnswers FewAnswers a b = a
-ifFewAnswers Done a b = b
-ifFewAnswers WrongLength a b = b
-ifFewAnswers NotWellFormed a b = b
-ifFewAnswers NoSuchNumber a b = b
-ifFewAnswers OffGrid a b = b
-ifFewAnswers NoSuchK a b = b
-ifFewAnswers AlreadyEnrolled a b = b
-ifFewAnswers Full a b = b
-ifFewAnswers NotEnrolled a b = b
-ifFewAnswers FewCandidates a b = b
-ifFewAnswers Misshapen a b = b
-ifFewAnswers SheetTooLong a b = b
+use Rattle.refusals.specs.Refusals.{enrolGives, withdrawGives, queryGives}
+use Rattle.refusals.specs.Cases.{ifDone, ifFewAnswers}
 
 -- a point's entry in a leaf
 abbrev pub pointEntry : ℤ → Site → Entry

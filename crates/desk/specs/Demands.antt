@@ -20,10 +20,11 @@ use Rattle.table.specs.Slots.{slots, isFree, levelAt}
 use Rattle.table.specs.Stations.{Station, stations}
 use Rattle.rules.specs.Rules.{wellFormed}
 use Rattle.filter.specs.Meaning.{answer}
-use Rattle.audit.specs.Check.{checkGives}
+use Rattle.audit.specs.Check.{checkLines, checkGives}
 use Rattle.filter.specs.Query.{Record, found, recordOf, recordsFound, countsOf, laidOver}
-use Rattle.desk.specs.Refusals.{checkLines, enrolLines, enrolGives, withdrawLines, withdrawGives, queryLines}
-use Rattle.desk.specs.Calls.{ifDone, afterEnrol, afterWithdraw, Queried, afterQuery, zeroCounts, onlyN}
+use Rattle.refusals.specs.Refusals.{enrolLines, enrolGives, withdrawLines, withdrawGives, queryLines}
+use Rattle.refusals.specs.Cases.{ifDone}
+use Rattle.desk.specs.Calls.{afterEnrol, afterWithdraw, Queried, afterQuery, zeroCounts, onlyN}
 
 -- a lent table that the check passes
 pub record Passing (ws : Words) : Type 0 where

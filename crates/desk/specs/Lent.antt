@@ -1,24 +1,20 @@
 -- A query as the code has it: the candidate list is lent as a row of records.
 use Prim.Native.Nat.{ℕ}
 use mathlib.Core.Path.{_≡_}
-use mathlib.Core.Bool.{Bool, true, false, cond}
 use mathlib.Core.List.{List}
-use lib.Dec.{ltb}
 use lib.IntN.{ℤ}
 use lib.ListN.{length}
 use Rattle.words.specs.Word.{natOf}
 use Rattle.grid.specs.Site.{Site}
 use Rattle.table.specs.Words.{Words}
-use Rattle.table.specs.declared.given.Given.{Given}
-use Rattle.table.specs.declared.given.Given.the-variants.{Done, FewAnswers}
 use Rattle.filter.specs.Query.{Record, laidOver}
-use Rattle.asking.specs.declared.answer.Reply.{Reply}
 use Rattle.record.specs.declared.Candidate.{Candidate}
 use Rattle.asking.specs.Records.{recordsOf}
 use Rattle.asking.specs.Asked.{candidatesFound}
-use Rattle.desk.specs.declared.query.Answered.{Answered}
-use Rattle.desk.specs.Refusals.{queryGives}
-use Rattle.desk.specs.Calls.{ifDone, ifFewAnswers, Queried, afterQuery}
+use Rattle.refusals.specs.declared.answered.Answered.{Answered}
+use Rattle.refusals.specs.Refusals.{queryGives}
+use Rattle.refusals.specs.Cases.{ifDone, ifFewAnswers}
+use Rattle.desk.specs.Calls.{Queried, afterQuery}
 
 -- what the code hands back, and the two lists
 abbrev pub queried : Answered → List Record → List ℕ → Queried
@@ -28,20 +24,6 @@ queried r candidates answers = record {
   candidates = candidates;
   answers = answers;
 }
-
--- the answer is a refusal
-abbrev pub refuses : Given → Bool
-refuses g = ifDone g false true
-
--- what is handed back where the answer list has so many places: refusal 10 gives n alone
-abbrev pub nAlone : ℕ → Answered
-nAlone n = record { given = FewAnswers; n = n; m = 0; o = 0 }
-
-abbrev pub allThree : Reply → Answered
-allThree r = record { given = Done; n = r .n; m = r .m; o = r .o }
-
-abbrev pub told : Reply → ℕ → Answered
-told r places = cond (ltb places (r .n)) (nAlone (r .n)) (allThree r)
 
 -- the candidate list after a query, record for record: what is behind the candidates stays
 unfoldable pub listAfter : Words → Site → ℤ → List Candidate → List ℕ → List Candidate

@@ -1,4 +1,3 @@
-pub mod Refusals
 pub mod Calls
 pub mod Demands
 pub mod Lent

@@ -8,8 +8,8 @@ use Rattle.table.specs.declared.given.Given.{Given}
 use Rattle.table.specs.Words.{Words}
 use Rattle.audit.specs.Check.{checkGives}
 use Rattle.record.specs.declared.Candidate.{Candidate}
-use Rattle.desk.specs.declared.query.Answered.{Answered}
-use Rattle.desk.specs.Refusals.{enrolGives, withdrawGives}
+use Rattle.refusals.specs.declared.answered.Answered.{Answered}
+use Rattle.refusals.specs.Refusals.{enrolGives, withdrawGives}
 use Rattle.desk.specs.Calls.{afterEnrol, afterWithdraw}
 use Rattle.desk.specs.Lent.{Answers}
 use Rattle.desk.specs.Alone.{AnswersAlone}

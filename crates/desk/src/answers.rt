@@ -4,12 +4,12 @@ ghost use mathlib.Core.Bool.{true};
 ghost use lib.ListN.{length};
 ghost use Rattle.figures.specs.Figures.{LENGTH};
 ghost use Rattle.rules.specs.Rules.{wellFormed};
-ghost use Rattle.desk.specs.Refusals.{site};
+ghost use Rattle.refusals.specs.Refusals.{site};
 ghost use Rattle.desk.specs.Alone.{AnswersAlone};
-use crate::query::Answered;
 use crate::query::query_passing;
 use figures::Table;
 use record::Candidate;
+use refusals::answered::Answered;
 
 // Room for as many candidates as a table has points. What stands in it the query does not read.
 fn blank_list() -> [Candidate; Table::MOST] {

@@ -4,13 +4,13 @@ ghost use mathlib.Core.Bool.{true};
 ghost use lib.ListN.{length};
 ghost use Rattle.figures.specs.Figures.{LENGTH};
 ghost use Rattle.rules.specs.Rules.{wellFormed};
-ghost use Rattle.desk.specs.Refusals.{site, enrolGives};
+ghost use Rattle.refusals.specs.Refusals.{site, enrolGives};
 ghost use Rattle.desk.specs.Calls.{pointEntry, afterEnrol};
-use crate::refuse;
 use crate::words::are_words;
 use audit::check;
 use grid::place::Place;
 use joining::enrol::enrol_in;
+use refusals::enrolling::enrol_given;
 use table::given::Given;
 use table::node::Entry;
 use words::border;
@@ -27,26 +27,6 @@ fn point_entry(number: i32, x: i32, y: i32) -> Entry
         reference: border::natural(number),
         rect: p.spot(),
     }
-}
-
-// What an enrolment gives on a table that passes the check: 3, 4, 6, 7.
-fn enrol_given(table: &[i32], number: i32, x: i32, y: i32) -> Given
-    requires { ⌜ (length (now table) ≡ LENGTH) × (wellFormed (now table) ≡ true) ⌝ }
-    ensures { λ r. ⌜ r ≡ enrolGives (now (table .entry)) number (site x y) ⌝ }
-{
-    if refuse::no_such_number(number) {
-        return Given::NoSuchNumber;
-    }
-    if refuse::off_grid(x, y) {
-        return Given::OffGrid;
-    }
-    if refuse::is_enrolled(table, number) {
-        return Given::AlreadyEnrolled;
-    }
-    if refuse::is_full(table) {
-        return Given::Full;
-    }
-    Given::Done
 }
 
 // Enrols on a table that passes the check. Who knows that it passes, as the job sheet does, pays for no check.

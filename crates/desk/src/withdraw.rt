@@ -4,28 +4,14 @@ ghost use mathlib.Core.Bool.{true};
 ghost use lib.ListN.{length};
 ghost use Rattle.figures.specs.Figures.{LENGTH};
 ghost use Rattle.rules.specs.Rules.{wellFormed};
-ghost use Rattle.desk.specs.Refusals.{withdrawGives};
+ghost use Rattle.refusals.specs.Refusals.{withdrawGives};
 ghost use Rattle.desk.specs.Calls.{afterWithdraw};
-use crate::refuse;
 use crate::words::are_words;
 use audit::check;
 use leaving::withdraw::withdraw_in;
+use refusals::withdrawing::withdraw_given;
 use table::given::Given;
 use words::border;
-
-// What a withdrawal gives on a table that passes the check: 3, 8.
-fn withdraw_given(table: &[i32], number: i32) -> Given
-    requires { ⌜ (length (now table) ≡ LENGTH) × (wellFormed (now table) ≡ true) ⌝ }
-    ensures { λ r. ⌜ r ≡ withdrawGives (now (table .entry)) number ⌝ }
-{
-    if refuse::no_such_number(number) {
-        return Given::NoSuchNumber;
-    }
-    if !refuse::is_enrolled(table, number) {
-        return Given::NotEnrolled;
-    }
-    Given::Done
-}
 
 // Withdraws from a table that passes the check, without a check.
 pub fn withdraw_passing(table: &mut [i32], number: i32) -> Given

@@ -16,12 +16,12 @@ use Rattle.table.specs.Words.{Words}
 use Rattle.audit.specs.Check.{checkGives}
 use Rattle.filter.specs.Query.{answersFound, laidOver}
 use Rattle.filter.proofs.Rows.{laid-set}
-use Rattle.desk.specs.declared.query.Answered.{Answered}
-use Rattle.desk.specs.Refusals.{site, queryGives}
+use Rattle.refusals.specs.declared.answered.Answered.{Answered}
+use Rattle.refusals.specs.Refusals.{site, queryGives}
 use Rattle.desk.specs.Calls.{afterQuery}
 use Rattle.desk.specs.Alone.{AnswersAlone}
 use Rattle.desk.proofs.CallAlone.{blank-long}
-use Rattle.desk.proofs.Given.{if-refused}
+use Rattle.refusals.proofs.Given.{if-refused}
 use Rattle.desk.proofs.Granted.{query-granted}
 use Rattle.export.specs.Sites.{sitesOf, siteCount, countsAt, countsOver, sitesAfter}
 

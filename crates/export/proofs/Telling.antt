@@ -11,7 +11,7 @@ use Rattle.table.specs.Words.{Words}
 use Rattle.table.specs.Given.{numberGiven}
 use Rattle.filter.specs.Query.{Counts, laidOver}
 use Rattle.record.specs.declared.Candidate.{Candidate}
-use Rattle.desk.specs.declared.query.Answered.{Answered}
+use Rattle.refusals.specs.declared.answered.Answered.{Answered}
 use Rattle.desk.specs.Calls.{Queried}
 use Rattle.desk.specs.Lent.{Answers}
 use Rattle.export.specs.Told.{countsLaid, Told}

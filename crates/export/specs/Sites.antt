@@ -9,8 +9,8 @@ use Rattle.figures.specs.Figures.{MOST}
 use Rattle.table.specs.Words.{Words}
 use Rattle.audit.specs.Check.{checkGives}
 use Rattle.filter.specs.Query.{answersFound, laidOver}
-use Rattle.desk.specs.Refusals.{site, queryGives}
-use Rattle.desk.specs.Calls.{ifDone}
+use Rattle.refusals.specs.Refusals.{site, queryGives}
+use Rattle.refusals.specs.Cases.{ifDone}
 
 -- the places, an x with each y: as many as the shorter list has
 abbrev pub sitesOf : List ℤ → List ℤ → List Site

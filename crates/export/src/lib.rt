@@ -3,15 +3,15 @@
 ghost use mathlib.Core.Path.{_≡_};
 ghost use Rattle.table.specs.Given.{numberGiven};
 ghost use Rattle.audit.specs.Check.{checkGives};
-ghost use Rattle.desk.specs.Refusals.{site, enrolGives, withdrawGives};
+ghost use Rattle.refusals.specs.Refusals.{site, enrolGives, withdrawGives};
 ghost use Rattle.desk.specs.Calls.{afterEnrol, afterWithdraw};
 ghost use Rattle.export.specs.Told.{countsLaid, Told};
 ghost use Rattle.export.specs.Sites.{sitesAfter};
 
 mod sites;
 
-use desk::query::Answered;
 use record::Candidate;
+use refusals::answered::Answered;
 use table::given::Given;
 use table::given::number_given;
 

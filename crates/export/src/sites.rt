@@ -5,7 +5,7 @@ ghost use Prim.Native.Nat.{min};
 ghost use lib.ListN.{length};
 ghost use Rattle.figures.specs.Figures.{LENGTH};
 ghost use Rattle.rules.specs.Rules.{wellFormed};
-ghost use Rattle.desk.specs.Refusals.{site};
+ghost use Rattle.refusals.specs.Refusals.{site};
 ghost use Rattle.export.specs.Sites.{siteCount, countsOver};
 use desk::answers::answers_passing;
 use figures::Table;

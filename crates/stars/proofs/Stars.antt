@@ -25,7 +25,7 @@ use Rattle.joining.specs.Enrol.{settled, enrolled}
 use Rattle.filter.specs.Meaning.{nearerOther, answersTo, rising, answer}
 use Rattle.filter.specs.Walk.{Found, nearestFirst, pointHidden, boxHidden}
 use Rattle.filter.specs.Query.{found, answersFound}
-use Rattle.desk.specs.Refusals.{site}
+use Rattle.refusals.specs.Refusals.{site}
 use Rattle.desk.specs.Calls.{pointEntry}
 use Rattle.stars.specs.Stars.{Stars, referred, enrolledUpTo, station, at}
 

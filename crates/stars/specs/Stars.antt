@@ -18,7 +18,7 @@ use Rattle.filter.specs.Meaning.{answer}
 use Rattle.filter.specs.Walk.{boxHidden}
 use Rattle.filter.specs.Query.{found, answersFound}
 use Rattle.table.specs.Empty.{emptyTable}
-use Rattle.desk.specs.Refusals.{site}
+use Rattle.refusals.specs.Refusals.{site}
 use Rattle.desk.specs.Calls.{pointEntry}
 
 abbrev pub station : ℕ → ℤ → ℤ → Station

@@ -2,9 +2,9 @@
 use mathlib.Core.Path.{_≡_, ap, _∙_}
 use lib.IntN.{ℤ}
 use Rattle.table.specs.Given.{numberGiven}
-use Rattle.desk.specs.Refusals.{site, enrolGives}
+use Rattle.refusals.specs.Refusals.{site, enrolGives}
 use Rattle.desk.specs.Calls.{afterEnrol}
-use Rattle.desk.proofs.CallTests.{three-passed}
+use Rattle.refusals.proofs.CallTests.{three-passed}
 use borrow.Author.Needs.{needs}
 use Rattle.export.proofs.ullagreth_enrol.Statement.{statement}
 use Rattle.export.proofs.ullagreth_enrol.Tie as tie

@@ -43,11 +43,11 @@ use Rattle.grid.specs.Site.{Site}
 use Rattle.table.specs.Given.{numberGiven}
 use Rattle.record.specs.declared.Candidate.{Candidate}
 use Rattle.record.proofs.Candidate as C′
-use Rattle.desk.specs.declared.query.Answered.{Answered}
-use Rattle.desk.specs.Refusals.{site}
+use Rattle.refusals.specs.declared.answered.Answered.{Answered}
+use Rattle.refusals.specs.Refusals.{site}
 use Rattle.desk.specs.Lent.{Answers}
-use Rattle.desk.proofs.query.Answered as T
-use Rattle.desk.proofs.query.Answered.Laws as T′
+use Rattle.refusals.proofs.answered.Answered as T
+use Rattle.refusals.proofs.answered.Answered.Laws as T′
 use Rattle.desk.proofs.query.query as query
 use Rattle.desk.proofs.query.query.Symbol as query-def
 use Rattle.desk.proofs.query.query.Symbol.{name as #desk·query·query}

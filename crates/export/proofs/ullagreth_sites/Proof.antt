@@ -1,8 +1,8 @@
 -- `export::ullagreth_sites` meets its contract: a table that the check refuses leaves the row as it was; on one that passes the places are counted. Assumes nothing.
 use mathlib.Core.Path.{ap, _∙_}
 use Rattle.table.specs.Given.{numberGiven}
-use Rattle.desk.proofs.CallTests.{one-passed}
-use Rattle.desk.proofs.CallOrder.{not-done, passes}
+use Rattle.refusals.proofs.CallTests.{one-passed}
+use Rattle.refusals.proofs.CallOrder.{not-done, passes}
 use Rattle.export.specs.Sites.{countsOver}
 use Rattle.export.proofs.SiteLaws.{sites-refused, sites-done}
 use borrow.Author.Needs.{needs}

@@ -2,9 +2,9 @@
 use mathlib.Core.Path.{_≡_, ap, _∙_}
 use lib.IntN.{ℤ}
 use Rattle.table.specs.Given.{numberGiven}
-use Rattle.desk.specs.Refusals.{withdrawGives}
+use Rattle.refusals.specs.Refusals.{withdrawGives}
 use Rattle.desk.specs.Calls.{afterWithdraw}
-use Rattle.desk.proofs.CallTests.{one-passed}
+use Rattle.refusals.proofs.CallTests.{one-passed}
 use borrow.Author.Needs.{needs}
 use Rattle.export.proofs.ullagreth_withdraw.Statement.{statement}
 use Rattle.export.proofs.ullagreth_withdraw.Tie as tie

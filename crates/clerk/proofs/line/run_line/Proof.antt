@@ -1,9 +1,9 @@
 -- `clerk::line::run_line` meets its contract, job by job. Assumes nothing.
 use mathlib.Core.Path.{sym, subst, _∙_}
 use mathlib.Core.List.{[]}
-use Rattle.desk.specs.Refusals.{site, enrolGives, withdrawGives}
+use Rattle.refusals.specs.Refusals.{site, enrolGives, withdrawGives}
 use Rattle.desk.specs.Calls.{afterEnrol, afterWithdraw}
-use Rattle.desk.proofs.CallTests.{one-passed, three-passed, three-back}
+use Rattle.refusals.proofs.CallTests.{one-passed, three-passed, three-back}
 use Rattle.jobs.specs.declared.job.Job.the-variants.{Query}
 use Rattle.jobs.specs.Job.{ENROL, WITHDRAW, QUERY}
 use Rattle.slip.specs.Output.{outputLine, Laid}

@@ -2,10 +2,10 @@
 use mathlib.Core.Path.{subst}
 use mathlib.Core.List.{[]}
 use native.Mathlib.Omega.{arith}
-use Rattle.desk.specs.Refusals.{site}
+use Rattle.refusals.specs.Refusals.{site}
 use Rattle.desk.specs.Alone.{AnswersAlone}
-use Rattle.desk.proofs.CallTests.{three-back}
-use Rattle.desk.proofs.CallOrder.{not-done}
+use Rattle.refusals.proofs.CallTests.{three-back}
+use Rattle.refusals.proofs.CallOrder.{not-done}
 use Rattle.jobs.specs.Job.{QUERY}
 use Rattle.slip.specs.Output.{outputLine, Laid}
 use Rattle.clerk.proofs.Jobs.{refused-ran, granted-ran, answers-room}

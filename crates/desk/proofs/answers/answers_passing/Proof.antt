@@ -52,12 +52,12 @@ use Rattle.record.proofs.Candidate as C′
 use Rattle.record.proofs.Candidate.Laws as C″
 use Rattle.walks.proofs.LentRow.{Whole, laid, taken, counted, lends, ends}
 use Rattle.walks.proofs.WalkSteps.{asks-nothing}
-use Rattle.desk.specs.declared.query.Answered.{Answered}
-use Rattle.desk.specs.Refusals.{site}
+use Rattle.refusals.specs.declared.answered.Answered.{Answered}
+use Rattle.refusals.specs.Refusals.{site}
 use Rattle.desk.specs.Lent.{Answers}
 use Rattle.desk.specs.Alone.{AnswersAlone}
-use Rattle.desk.proofs.query.Answered as T
-use Rattle.desk.proofs.query.Answered.Laws as T′
+use Rattle.refusals.proofs.answered.Answered as T
+use Rattle.refusals.proofs.answered.Answered.Laws as T′
 use Rattle.desk.proofs.CallAlone.{answers-alone}
 use Rattle.desk.proofs.answers.blank_list as blank-list
 use Rattle.desk.proofs.answers.blank_list.Symbol as blank-list-def

@@ -2,12 +2,13 @@
 use mathlib.Core.Path.{sym, ap, _∙_}
 use Rattle.table.specs.Stations.{isPoint}
 use Rattle.joining.specs.Enrol.{enrolled}
-use Rattle.desk.specs.Refusals.{site, enrolGives}
+use Rattle.refusals.specs.Refusals.{site, enrolGives}
 use Rattle.desk.specs.Calls.{pointEntry}
 use Rattle.desk.proofs.Granted.{enrol-granted}
 use Rattle.desk.proofs.Kept.{point-entry}
-use Rattle.desk.proofs.CallTests.{three-passed}
-use Rattle.desk.proofs.CallOrder.{not-done, enrol-refused, enrol-done}
+use Rattle.refusals.proofs.CallTests.{three-passed}
+use Rattle.desk.proofs.CallAfter.{enrol-refused, enrol-done}
+use Rattle.refusals.proofs.CallOrder.{not-done}
 use borrow.Author.Needs.{needs}
 use Rattle.desk.proofs.enrol.enrol_passing.Statement.{statement}
 use Rattle.desk.proofs.enrol.enrol_passing.Tie as tie

@@ -49,25 +49,26 @@ use Rattle.table.proofs.given.Given.Laws as G′
 use Rattle.record.specs.declared.Candidate.{Candidate}
 use Rattle.record.proofs.Candidate as C′
 use Rattle.walks.proofs.WalkSteps.{env, lets-go}
-use Rattle.desk.specs.declared.query.Answered.{Answered}
-use Rattle.desk.specs.Refusals.{site}
-use Rattle.desk.specs.Lent.{refuses, Answers}
-use Rattle.desk.proofs.query.Answered as T
-use Rattle.desk.proofs.query.Answered.Laws as T′
-use Rattle.desk.proofs.CallQuery.{answersTold, query-first}
+use Rattle.refusals.specs.declared.answered.Answered.{Answered}
+use Rattle.refusals.specs.Refusals.{site}
+use Rattle.refusals.specs.Cases.{refuses}
+use Rattle.desk.specs.Lent.{Answers}
+use Rattle.refusals.proofs.answered.Answered as T
+use Rattle.refusals.proofs.answered.Answered.Laws as T′
+use Rattle.refusals.proofs.QueryOrder.{answersTold, query-first}
 use Rattle.desk.proofs.CallList.{is-true, is-false, refused-not-done, not-refused-done, list-refused}
-use Rattle.desk.proofs.query.is_refused as is-refused
-use Rattle.desk.proofs.query.is_refused.Symbol as is-refused-def
-use Rattle.desk.proofs.query.is_refused.Symbol.{name as #desk·query·is-refused}
-use Rattle.desk.proofs.query.is_refused.Met as is-refused-thm
-use Rattle.desk.proofs.query.refused as refused
-use Rattle.desk.proofs.query.refused.Symbol as refused-def
-use Rattle.desk.proofs.query.refused.Symbol.{name as #desk·query·refused}
-use Rattle.desk.proofs.query.refused.Met as refused-thm
+use Rattle.refusals.proofs.answered.is_refused as is-refused
+use Rattle.refusals.proofs.answered.is_refused.Symbol as is-refused-def
+use Rattle.refusals.proofs.answered.is_refused.Symbol.{name as #refusals·answered·is-refused}
+use Rattle.refusals.proofs.answered.is_refused.Met as is-refused-thm
+use Rattle.refusals.proofs.answered.refused as refused
+use Rattle.refusals.proofs.answered.refused.Symbol as refused-def
+use Rattle.refusals.proofs.answered.refused.Symbol.{name as #refusals·answered·refused}
+use Rattle.refusals.proofs.answered.refused.Met as refused-thm
 use Rattle.audit.specs.Check.{checkGives}
 use Rattle.figures.specs.Figures.{LENGTH}
 use Rattle.rules.specs.Rules.{wellFormed}
-use Rattle.desk.proofs.CallOrder.{passes}
+use Rattle.refusals.proofs.CallOrder.{passes}
 use Rattle.audit.proofs.check as check
 use Rattle.audit.proofs.check.Symbol as check-def
 use Rattle.audit.proofs.check.Symbol.{name as #audit·check}
@@ -183,7 +184,7 @@ module _ {M : Type 1} (𝓤 : URA M) (H : Heap 𝓤) (A : Atoms 𝓤) (W : Rules
       says ! ask $ nothing ! $ move ! (3 ∷ 0 ∷ []) $ join ! $ move ! (2 ∷ 0 ∷ []) $ join ! $ move ! (1 ∷ 0 ∷ []) $ join ! $ frame ! $
       nothing ! $ move ! (3 ∷ 0 ∷ []) $ fjoin ! $ move ! (2 ∷ 0 ∷ []) $ fjoin ! $ owned ! i32 (Is i32) (sint-makes 𝓤 H A W w32) zk _ gk $ fjoin ! $ owned ! i32 (Is i32) (sint-makes 𝓤 H A W w32) zy _ gy $ fjoin ! $ owned ! i32 (Is i32) (sint-makes 𝓤 H A W w32) zx _ gx $ fjoin ! $ move ! (1 ∷ 0 ∷ []) $ fjoin ! $ done !
 
-  module _ (C : Calls 𝓤 H) (Λ : Loops 𝓤 H) (fm : FmC 𝓤 H (W .laws) C) (known-check : Triple 𝓤 (C #audit·check) (Check 𝓤 H A mem run)) (known-is-refused : Triple 𝓤 (C #desk·query·is-refused) (IsRefused 𝓤 H A mem run)) (known-refused : Triple 𝓤 (C #desk·query·refused) (Refused 𝓤 H A mem run)) (known-passing : Triple 𝓤 (C #desk·query·query-passing) (Passing 𝓤 H A mem run)) where
+  module _ (C : Calls 𝓤 H) (Λ : Loops 𝓤 H) (fm : FmC 𝓤 H (W .laws) C) (known-check : Triple 𝓤 (C #audit·check) (Check 𝓤 H A mem run)) (known-is-refused : Triple 𝓤 (C #refusals·answered·is-refused) (IsRefused 𝓤 H A mem run)) (known-refused : Triple 𝓤 (C #refusals·answered·refused) (Refused 𝓤 H A mem run)) (known-passing : Triple 𝓤 (C #desk·query·query-passing) (Passing 𝓤 H A mem run)) where
     abbrev En : (l₀ l₁ l₂ l₃ l₄ l₅ l₆ l₇ l₈ l₉ l₁₀ l₁₁ l₁₂ : ℕ) → Env 𝓤 H
     En l₀ l₁ l₂ l₃ l₄ l₅ l₆ l₇ l₈ l₉ l₁₀ l₁₁ l₁₂ = env (code.function .locals) (l₀ ∷ l₁ ∷ l₂ ∷ l₃ ∷ l₄ ∷ l₅ ∷ l₆ ∷ l₇ ∷ l₈ ∷ l₉ ∷ l₁₀ ∷ l₁₁ ∷ l₁₂ ∷ [])
 
@@ -237,14 +238,14 @@ module _ {M : Type 1} (𝓤 : URA M) (H : Heap 𝓤) (A : Atoms 𝓤) (W : Rules
         keep ! (4 ∷ 3 ∷ 1 ∷ 8 ∷ 7 ∷ 5 ∷ 0 ∷ []) $ by ! (exits (vs .1 .1 .1 .1 .0) (vs .1 .1 .1 .1 .1 .0) r u l₁ l₂ answered))))))))))))))))))))))))))))))))
 
 module _ {M : Type 1} (𝓤 : URA M) (H : Heap 𝓤) (A : Atoms 𝓤) (W : Rules 𝓤 H A) (mem : Memory → SProp 𝓤) (run : Routine → Fun 𝓤) where
-  query-walks : (C : Calls 𝓤 H) (Λ : Loops 𝓤 H) → FmC 𝓤 H (W .laws) C → Triple 𝓤 (C #audit·check) (Check 𝓤 H A mem run) → Triple 𝓤 (C #desk·query·is-refused) (IsRefused 𝓤 H A mem run) → Triple 𝓤 (C #desk·query·refused) (Refused 𝓤 H A mem run) → Triple 𝓤 (C #desk·query·query-passing) (Passing 𝓤 H A mem run) → Walks 𝓤 H A f.ended stayed (WpFn 𝓤 H C Λ code.function) (f.clauses 𝓤 H A mem run)
+  query-walks : (C : Calls 𝓤 H) (Λ : Loops 𝓤 H) → FmC 𝓤 H (W .laws) C → Triple 𝓤 (C #audit·check) (Check 𝓤 H A mem run) → Triple 𝓤 (C #refusals·answered·is-refused) (IsRefused 𝓤 H A mem run) → Triple 𝓤 (C #refusals·answered·refused) (Refused 𝓤 H A mem run) → Triple 𝓤 (C #desk·query·query-passing) (Passing 𝓤 H A mem run) → Walks 𝓤 H A f.ended stayed (WpFn 𝓤 H C Λ code.function) (f.clauses 𝓤 H A mem run)
   query-walks C Λ fm known-check known-is-refused known-refused known-passing = walked 𝓤 H A f.ended stayed (f.clauses 𝓤 H A mem run) (WpFn 𝓤 H C Λ code.function)
       (λ κs. (slice-vals, (sint-vals w32, (sint-vals w32, (sint-vals w32, (slice-vals, (slice-vals, tt)))))))
       (λ κs. (shr-slice-tells (named 0) (κs .0) i32, (sint-tells w32, (sint-tells w32, (sint-tells w32, (mut-slice-tells (named 1) (κs .1 .0) R, (mut-slice-tells (named 2) (κs .1 .1 .0) u32, tt)))))))
       (λ κs qs bounds a g are. via 𝓤 _ (fst∗ 𝓤 _ (emp 𝓤))
       (walk 𝓤 H A W mem run κs qs (a .0) (a .1 .0) (a .1 .1 .0) (a .1 .1 .1 .0) (a .1 .1 .1 .1 .0) (a .1 .1 .1 .1 .1 .0) (are .0 .0 .1) (are .1 .0) (are .1 .1 .0) (are .1 .1 .1 .0) (are .1 .1 .1 .1 .0 .0 .1) (are .1 .1 .1 .1 .1 .0 .0 .1) C Λ fm known-check known-is-refused known-refused known-passing))
 
-query-meets : {M : Type 1} (𝓤 : URA M) (H : Heap 𝓤) (A : Atoms 𝓤) → Rules 𝓤 H A → (mem : Memory → SProp 𝓤) (run : Routine → Fun 𝓤) (𝓣 : Tables 𝓤 H) → Triple 𝓤 (𝓣 .C #audit·check) (Check 𝓤 H A mem run) → Triple 𝓤 (𝓣 .C #desk·query·is-refused) (IsRefused 𝓤 H A mem run) → Triple 𝓤 (𝓣 .C #desk·query·refused) (Refused 𝓤 H A mem run) → Triple 𝓤 (𝓣 .C #desk·query·query-passing) (Passing 𝓤 H A mem run)
+query-meets : {M : Type 1} (𝓤 : URA M) (H : Heap 𝓤) (A : Atoms 𝓤) → Rules 𝓤 H A → (mem : Memory → SProp 𝓤) (run : Routine → Fun 𝓤) (𝓣 : Tables 𝓤 H) → Triple 𝓤 (𝓣 .C #audit·check) (Check 𝓤 H A mem run) → Triple 𝓤 (𝓣 .C #refusals·answered·is-refused) (IsRefused 𝓤 H A mem run) → Triple 𝓤 (𝓣 .C #refusals·answered·refused) (Refused 𝓤 H A mem run) → Triple 𝓤 (𝓣 .C #desk·query·query-passing) (Passing 𝓤 H A mem run)
     → Meets 𝓤 H A f.signature (WpFn 𝓤 H (𝓣 .C) (𝓣 .Λ) code.function) (f.spec 𝓤 H A mem run)
 query-meets 𝓤 H A W mem run 𝓣 known-check known-is-refused known-refused known-passing =
     walk-meets 𝓤 H A f.ended stayed W (
@@ -260,6 +261,6 @@ query-spec 𝓤 H 𝓜 𝓖 𝓡 =
     (tables 𝓤 H 𝓜 𝓡 code.env .C) (tables 𝓤 H 𝓜 𝓡 code.env .Λ) #desk·query·query code.function (code.unfolded 𝓤 H 𝓜 𝓡)
     (query-meets 𝓤 H (𝓖 .A) (givenOf 𝓤 H 𝓜 𝓖) (𝓜 .mem) (𝓡 .run) (tablesOf 𝓤 H 𝓜 (tables 𝓤 H 𝓜 𝓡 code.env))
     (cited 𝓤 H (Check 𝓤 H (𝓖 .A) (𝓜 .mem) (𝓡 .run)) 𝓜 𝓡 code.env #audit·check check-def.routine code.calls-audit·check (check-thm.met 𝓤 H 𝓜 𝓖 𝓡))
-    (cited 𝓤 H (IsRefused 𝓤 H (𝓖 .A) (𝓜 .mem) (𝓡 .run)) 𝓜 𝓡 code.env #desk·query·is-refused is-refused-def.routine code.calls-desk·query·is-refused (is-refused-thm.met 𝓤 H 𝓜 𝓖 𝓡))
-    (cited 𝓤 H (Refused 𝓤 H (𝓖 .A) (𝓜 .mem) (𝓡 .run)) 𝓜 𝓡 code.env #desk·query·refused refused-def.routine code.calls-desk·query·refused (refused-thm.met 𝓤 H 𝓜 𝓖 𝓡))
+    (cited 𝓤 H (IsRefused 𝓤 H (𝓖 .A) (𝓜 .mem) (𝓡 .run)) 𝓜 𝓡 code.env #refusals·answered·is-refused is-refused-def.routine code.calls-refusals·answered·is-refused (is-refused-thm.met 𝓤 H 𝓜 𝓖 𝓡))
+    (cited 𝓤 H (Refused 𝓤 H (𝓖 .A) (𝓜 .mem) (𝓡 .run)) 𝓜 𝓡 code.env #refusals·answered·refused refused-def.routine code.calls-refusals·answered·refused (refused-thm.met 𝓤 H 𝓜 𝓖 𝓡))
     (cited 𝓤 H (Passing 𝓤 H (𝓖 .A) (𝓜 .mem) (𝓡 .run)) 𝓜 𝓡 code.env #desk·query·query-passing query-passing-def.routine code.calls-desk·query·query-passing (query-passing-thm.met 𝓤 H 𝓜 𝓖 𝓡)))

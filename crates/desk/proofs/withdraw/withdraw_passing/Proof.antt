@@ -3,10 +3,11 @@ use mathlib.Core.Path.{sym, ap, _∙_}
 use Rattle.words.proofs.Machine.{natural-passed}
 use Rattle.order.specs.Lists.{has}
 use Rattle.leaving.specs.Withdraw.{withdrawn}
-use Rattle.desk.specs.Refusals.{numbersOf, withdrawGives}
+use Rattle.refusals.specs.Refusals.{numbersOf, withdrawGives}
 use Rattle.desk.proofs.Granted.{withdraw-granted}
-use Rattle.desk.proofs.CallTests.{one-passed}
-use Rattle.desk.proofs.CallOrder.{not-done, withdraw-refused, withdraw-done}
+use Rattle.refusals.proofs.CallTests.{one-passed}
+use Rattle.desk.proofs.CallAfter.{withdraw-refused, withdraw-done}
+use Rattle.refusals.proofs.CallOrder.{not-done}
 use borrow.Author.Needs.{needs}
 use Rattle.desk.proofs.withdraw.withdraw_passing.Statement.{statement}
 use Rattle.desk.proofs.withdraw.withdraw_passing.Tie as tie

@@ -3,10 +3,10 @@ use mathlib.Core.Path.{_≡_}
 use native.Mathlib.Omega.{arith}
 use lib.ListN.{length}
 use Rattle.figures.specs.Figures.{MOST}
-use Rattle.desk.specs.Refusals.{site}
+use Rattle.refusals.specs.Refusals.{site}
 use Rattle.desk.specs.Alone.{AnswersAlone}
-use Rattle.desk.proofs.CallTests.{three-back}
-use Rattle.desk.proofs.CallOrder.{not-done}
+use Rattle.refusals.proofs.CallTests.{three-back}
+use Rattle.refusals.proofs.CallOrder.{not-done}
 use Rattle.export.proofs.SiteLaws.{count-refused, count-few, count-done}
 use borrow.Author.Needs.{needs}
 use Rattle.export.proofs.sites.count_at.Statement.{statement}

@@ -1,0 +1,54 @@
+-- What depends on the answer of a call: on whether it is granted, and on whether it is refusal 10.
+use mathlib.Core.Bool.{Bool, true, false}
+use Rattle.table.specs.declared.given.Given.{Given}
+use Rattle.table.specs.declared.given.Given.the-variants.{
+  Done,
+  WrongLength,
+  NotWellFormed,
+  NoSuchNumber,
+  OffGrid,
+  NoSuchK,
+  AlreadyEnrolled,
+  Full,
+  NotEnrolled,
+  FewCandidates,
+  FewAnswers,
+  Misshapen,
+  SheetTooLong,
+}
+
+-- one thing if the call is granted, another if it is refused
+abbrev pub ifDone : {A : Type 0} → Given → A → A → A
+ifDone Done a b = a
+ifDone WrongLength a b = b
+ifDone NotWellFormed a b = b
+ifDone NoSuchNumber a b = b
+ifDone OffGrid a b = b
+ifDone NoSuchK a b = b
+ifDone AlreadyEnrolled a b = b
+ifDone Full a b = b
+ifDone NotEnrolled a b = b
+ifDone FewCandidates a b = b
+ifDone FewAnswers a b = b
+ifDone Misshapen a b = b
+ifDone SheetTooLong a b = b
+
+-- one thing if the query is refused with 10, another otherwise
+abbrev pub ifFewAnswers : {A : Type 0} → Given → A → A → A
+ifFewAnswers FewAnswers a b = a
+ifFewAnswers Done a b = b
+ifFewAnswers WrongLength a b = b
+ifFewAnswers NotWellFormed a b = b
+ifFewAnswers NoSuchNumber a b = b
+ifFewAnswers OffGrid a b = b
+ifFewAnswers NoSuchK a b = b
+ifFewAnswers AlreadyEnrolled a b = b
+ifFewAnswers Full a b = b
+ifFewAnswers NotEnrolled a b = b
+ifFewAnswers FewCandidates a b = b
+ifFewAnswers Misshapen a b = b
+ifFewAnswers SheetTooLong a b = b
+
+-- the answer is a refusal
+abbrev pub refuses : Given → Bool
+refuses g = ifDone g false true
