@@ -4,9 +4,9 @@ ghost use Prim.Native.Nat.{_+_, _≤_, _<_, _^_};
 ghost use lib.ListN.{length};
 ghost use Rattle.clerk.specs.Running.{lent, Passes, longestLine, RanLines};
 use crate::line::run_line;
-use desk::words::are_words;
 use sheet::reader::line_here;
 use sheet::reader::next_here;
+use words::lent::are_words;
 
 // How far the sheet has been run: the place where the next line starts, its number, and how many bytes stand in the buffer.
 pub struct Run {

@@ -6,7 +6,6 @@ ghost use Rattle.figures.specs.Figures.{LENGTH};
 ghost use Rattle.rules.specs.Rules.{wellFormed};
 ghost use Rattle.refusals.specs.Refusals.{site, enrolGives};
 ghost use Rattle.desk.specs.Calls.{pointEntry, afterEnrol};
-use crate::words::are_words;
 use audit::check;
 use grid::place::Place;
 use joining::enrol::enrol_in;
@@ -14,6 +13,7 @@ use refusals::enrolling::enrol_given;
 use table::given::Given;
 use table::node::Entry;
 use words::border;
+use words::lent::are_words;
 
 // The entry that a leaf has for a point.
 fn point_entry(number: i32, x: i32, y: i32) -> Entry

@@ -7,4 +7,3 @@ pub mod check;
 pub mod enrol;
 pub mod query;
 pub mod withdraw;
-pub mod words;

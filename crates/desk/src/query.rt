@@ -6,7 +6,6 @@ ghost use Rattle.figures.specs.Figures.{LENGTH};
 ghost use Rattle.rules.specs.Rules.{wellFormed};
 ghost use Rattle.refusals.specs.Refusals.{site};
 ghost use Rattle.desk.specs.Lent.{Answers};
-use crate::words::are_words;
 use asking::answer::answer;
 use audit::check;
 use record::Candidate;
@@ -16,6 +15,7 @@ use refusals::answered::is_refused;
 use refusals::answered::refused;
 use refusals::querying::query_given;
 use words::border::natural;
+use words::lent::are_words;
 
 // Answers a query on a table that passes the check, without a check.
 pub fn query_passing(

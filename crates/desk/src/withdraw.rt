@@ -6,12 +6,12 @@ ghost use Rattle.figures.specs.Figures.{LENGTH};
 ghost use Rattle.rules.specs.Rules.{wellFormed};
 ghost use Rattle.refusals.specs.Refusals.{withdrawGives};
 ghost use Rattle.desk.specs.Calls.{afterWithdraw};
-use crate::words::are_words;
 use audit::check;
 use leaving::withdraw::withdraw_in;
 use refusals::withdrawing::withdraw_given;
 use table::given::Given;
 use words::border;
+use words::lent::are_words;
 
 // Withdraws from a table that passes the check, without a check.
 pub fn withdraw_passing(table: &mut [i32], number: i32) -> Given

@@ -76,10 +76,10 @@ use Rattle.asking.proofs.answer.Reply as P
 use Rattle.asking.proofs.answer.Reply.Laws as P′
 use Rattle.asking.specs.Asked.{Askable, Listed}
 use Rattle.desk.proofs.Granted.{query-granted}
-use Rattle.desk.proofs.words.are_words as are-words
-use Rattle.desk.proofs.words.are_words.Symbol as are-words-def
-use Rattle.desk.proofs.words.are_words.Symbol.{name as #desk·words·are-words}
-use Rattle.desk.proofs.words.are_words.Met as are-words-thm
+use Rattle.words.proofs.lent.are_words as are-words
+use Rattle.words.proofs.lent.are_words.Symbol as are-words-def
+use Rattle.words.proofs.lent.are_words.Symbol.{name as #words·lent·are-words}
+use Rattle.words.proofs.lent.are_words.Met as are-words-thm
 use Rattle.refusals.proofs.querying.query_given as query-given
 use Rattle.refusals.proofs.querying.query_given.Symbol as query-given-def
 use Rattle.refusals.proofs.querying.query_given.Symbol.{name as #refusals·querying·query-given}
@@ -246,7 +246,7 @@ module _ {M : Type 1} (𝓤 : URA M) (H : Heap 𝓤) (A : Atoms 𝓤) (W : Rules
   goes-reply p w =
       qed W (‵ (P.the-row .own p (w ∷ [])) ∷ []) ∵ nothing ! $ nothing ! $ owned ! usize (Is usize) (uint-makes 𝓤 H A W w64) (length (now ar)) _ (refl, ra .0) $ fjoin ! $ move ! (2 ∷ 0 ∷ []) $ fjoin ! $ nothing ! $ join ! $ done !
 
-  module _ (C : Calls 𝓤 H) (Λ : Loops 𝓤 H) (fm : FmC 𝓤 H (W .laws) C) (known-words : Triple 𝓤 (C #desk·words·are-words) (AreWords 𝓤 H A mem run)) (known-given : Triple 𝓤 (C #refusals·querying·query-given) (QueryGiven 𝓤 H A mem run)) (known-is-refused : Triple 𝓤 (C #refusals·answered·is-refused) (IsRefused 𝓤 H A mem run)) (known-refused : Triple 𝓤 (C #refusals·answered·refused) (Refused 𝓤 H A mem run)) (known-natural : Triple 𝓤 (C #words·border·natural) (Natural 𝓤 H A mem run)) (known-answer : Triple 𝓤 (C #asking·answer·answer) (Answer 𝓤 H A mem run)) (known-handed : Triple 𝓤 (C #refusals·answered·handed-back) (HandedBack 𝓤 H A mem run)) where
+  module _ (C : Calls 𝓤 H) (Λ : Loops 𝓤 H) (fm : FmC 𝓤 H (W .laws) C) (known-words : Triple 𝓤 (C #words·lent·are-words) (AreWords 𝓤 H A mem run)) (known-given : Triple 𝓤 (C #refusals·querying·query-given) (QueryGiven 𝓤 H A mem run)) (known-is-refused : Triple 𝓤 (C #refusals·answered·is-refused) (IsRefused 𝓤 H A mem run)) (known-refused : Triple 𝓤 (C #refusals·answered·refused) (Refused 𝓤 H A mem run)) (known-natural : Triple 𝓤 (C #words·border·natural) (Natural 𝓤 H A mem run)) (known-answer : Triple 𝓤 (C #asking·answer·answer) (Answer 𝓤 H A mem run)) (known-handed : Triple 𝓤 (C #refusals·answered·handed-back) (HandedBack 𝓤 H A mem run)) where
     abbrev En : (l₀ l₁ l₂ l₃ l₄ l₅ l₆ l₇ l₈ l₉ l₁₀ l₁₁ l₁₂ l₁₃ l₁₄ l₁₅ : ℕ) → Env 𝓤 H
     En l₀ l₁ l₂ l₃ l₄ l₅ l₆ l₇ l₈ l₉ l₁₀ l₁₁ l₁₂ l₁₃ l₁₄ l₁₅ = env (code.function .locals) (l₀ ∷ l₁ ∷ l₂ ∷ l₃ ∷ l₄ ∷ l₅ ∷ l₆ ∷ l₇ ∷ l₈ ∷ l₉ ∷ l₁₀ ∷ l₁₁ ∷ l₁₂ ∷ l₁₃ ∷ l₁₄ ∷ l₁₅ ∷ [])
 
@@ -321,14 +321,14 @@ module _ {M : Type 1} (𝓤 : URA M) (H : Heap 𝓤) (A : Atoms 𝓤) (W : Rules
         keep ! (5 ∷ 4 ∷ 2 ∷ 9 ∷ 8 ∷ 6 ∷ 0 ∷ []) $ by ! (exits (vs .1 .1 .1 .1 .0) (vs .1 .1 .1 .1 .1 .0) r u l₁ l₂ (subst (Answers ws q zk ys (vs .1 .1 .1 .1 .0) (now ar) (vs .1 .1 .1 .1 .1 .0)) (sym h) (list-told ws q zk ys (vs .1 .1 .1 .1 .0) (now ar) (vs .1 .1 .1 .1 .1 .0) p (subst (λ (j : ℕ). Listed ws q j ys (vs .1 .1 .1 .1 .0) (now ar) (vs .1 .1 .1 .1 .1 .0) p) ek listed) e granted))))))))))))))))))))))))))))))))))))))))))))))))))))
 
 module _ {M : Type 1} (𝓤 : URA M) (H : Heap 𝓤) (A : Atoms 𝓤) (W : Rules 𝓤 H A) (mem : Memory → SProp 𝓤) (run : Routine → Fun 𝓤) where
-  query-passing-walks : (C : Calls 𝓤 H) (Λ : Loops 𝓤 H) → FmC 𝓤 H (W .laws) C → Triple 𝓤 (C #desk·words·are-words) (AreWords 𝓤 H A mem run) → Triple 𝓤 (C #refusals·querying·query-given) (QueryGiven 𝓤 H A mem run) → Triple 𝓤 (C #refusals·answered·is-refused) (IsRefused 𝓤 H A mem run) → Triple 𝓤 (C #refusals·answered·refused) (Refused 𝓤 H A mem run) → Triple 𝓤 (C #words·border·natural) (Natural 𝓤 H A mem run) → Triple 𝓤 (C #asking·answer·answer) (Answer 𝓤 H A mem run) → Triple 𝓤 (C #refusals·answered·handed-back) (HandedBack 𝓤 H A mem run) → Walks 𝓤 H A f.ended stayed (WpFn 𝓤 H C Λ code.function) (f.clauses 𝓤 H A mem run)
+  query-passing-walks : (C : Calls 𝓤 H) (Λ : Loops 𝓤 H) → FmC 𝓤 H (W .laws) C → Triple 𝓤 (C #words·lent·are-words) (AreWords 𝓤 H A mem run) → Triple 𝓤 (C #refusals·querying·query-given) (QueryGiven 𝓤 H A mem run) → Triple 𝓤 (C #refusals·answered·is-refused) (IsRefused 𝓤 H A mem run) → Triple 𝓤 (C #refusals·answered·refused) (Refused 𝓤 H A mem run) → Triple 𝓤 (C #words·border·natural) (Natural 𝓤 H A mem run) → Triple 𝓤 (C #asking·answer·answer) (Answer 𝓤 H A mem run) → Triple 𝓤 (C #refusals·answered·handed-back) (HandedBack 𝓤 H A mem run) → Walks 𝓤 H A f.ended stayed (WpFn 𝓤 H C Λ code.function) (f.clauses 𝓤 H A mem run)
   query-passing-walks C Λ fm known-words known-given known-is-refused known-refused known-natural known-answer known-handed = walked 𝓤 H A f.ended stayed (f.clauses 𝓤 H A mem run) (WpFn 𝓤 H C Λ code.function)
       (λ κs. (slice-vals, (sint-vals w32, (sint-vals w32, (sint-vals w32, (slice-vals, (slice-vals, tt)))))))
       (λ κs. (shr-slice-tells (named 0) (κs .0) i32, (sint-tells w32, (sint-tells w32, (sint-tells w32, (mut-slice-tells (named 1) (κs .1 .0) R, (mut-slice-tells (named 2) (κs .1 .1 .0) u32, tt)))))))
       (λ κs qs bounds a g are. needs 𝓤 ((length (now (a .0)) ≡ LENGTH) × (wellFormed (now (a .0)) ≡ true)) _ (λ pre.
       walk 𝓤 H A W mem run κs qs (a .0) (a .1 .0) (a .1 .1 .0) (a .1 .1 .1 .0) (a .1 .1 .1 .1 .0) (a .1 .1 .1 .1 .1 .0) (are .0 .0 .1) (are .1 .0) (are .1 .1 .0) (are .1 .1 .1 .0) (are .1 .1 .1 .1 .0 .0 .1) (are .1 .1 .1 .1 .1 .0 .0 .1) pre C Λ fm known-words known-given known-is-refused known-refused known-natural known-answer known-handed))
 
-query-passing-meets : {M : Type 1} (𝓤 : URA M) (H : Heap 𝓤) (A : Atoms 𝓤) → Rules 𝓤 H A → (mem : Memory → SProp 𝓤) (run : Routine → Fun 𝓤) (𝓣 : Tables 𝓤 H) → Triple 𝓤 (𝓣 .C #desk·words·are-words) (AreWords 𝓤 H A mem run) → Triple 𝓤 (𝓣 .C #refusals·querying·query-given) (QueryGiven 𝓤 H A mem run) → Triple 𝓤 (𝓣 .C #refusals·answered·is-refused) (IsRefused 𝓤 H A mem run) → Triple 𝓤 (𝓣 .C #refusals·answered·refused) (Refused 𝓤 H A mem run) → Triple 𝓤 (𝓣 .C #words·border·natural) (Natural 𝓤 H A mem run) → Triple 𝓤 (𝓣 .C #asking·answer·answer) (Answer 𝓤 H A mem run) → Triple 𝓤 (𝓣 .C #refusals·answered·handed-back) (HandedBack 𝓤 H A mem run)
+query-passing-meets : {M : Type 1} (𝓤 : URA M) (H : Heap 𝓤) (A : Atoms 𝓤) → Rules 𝓤 H A → (mem : Memory → SProp 𝓤) (run : Routine → Fun 𝓤) (𝓣 : Tables 𝓤 H) → Triple 𝓤 (𝓣 .C #words·lent·are-words) (AreWords 𝓤 H A mem run) → Triple 𝓤 (𝓣 .C #refusals·querying·query-given) (QueryGiven 𝓤 H A mem run) → Triple 𝓤 (𝓣 .C #refusals·answered·is-refused) (IsRefused 𝓤 H A mem run) → Triple 𝓤 (𝓣 .C #refusals·answered·refused) (Refused 𝓤 H A mem run) → Triple 𝓤 (𝓣 .C #words·border·natural) (Natural 𝓤 H A mem run) → Triple 𝓤 (𝓣 .C #asking·answer·answer) (Answer 𝓤 H A mem run) → Triple 𝓤 (𝓣 .C #refusals·answered·handed-back) (HandedBack 𝓤 H A mem run)
     → Meets 𝓤 H A f.signature (WpFn 𝓤 H (𝓣 .C) (𝓣 .Λ) code.function) (f.spec 𝓤 H A mem run)
 query-passing-meets 𝓤 H A W mem run 𝓣 known-words known-given known-is-refused known-refused known-natural known-answer known-handed =
     walk-meets 𝓤 H A f.ended stayed W (
@@ -343,7 +343,7 @@ query-passing-spec 𝓤 H 𝓜 𝓖 𝓡 =
     entered 𝓤 H (tripleOf 𝓤 H (𝓖 .A) f.signature (f.spec 𝓤 H (𝓖 .A) (𝓜 .mem) (𝓡 .run)))
     (tables 𝓤 H 𝓜 𝓡 code.env .C) (tables 𝓤 H 𝓜 𝓡 code.env .Λ) #desk·query·query-passing code.function (code.unfolded 𝓤 H 𝓜 𝓡)
     (query-passing-meets 𝓤 H (𝓖 .A) (givenOf 𝓤 H 𝓜 𝓖) (𝓜 .mem) (𝓡 .run) (tablesOf 𝓤 H 𝓜 (tables 𝓤 H 𝓜 𝓡 code.env))
-    (cited 𝓤 H (AreWords 𝓤 H (𝓖 .A) (𝓜 .mem) (𝓡 .run)) 𝓜 𝓡 code.env #desk·words·are-words are-words-def.routine code.calls-desk·words·are-words (are-words-thm.met 𝓤 H 𝓜 𝓖 𝓡))
+    (cited 𝓤 H (AreWords 𝓤 H (𝓖 .A) (𝓜 .mem) (𝓡 .run)) 𝓜 𝓡 code.env #words·lent·are-words are-words-def.routine code.calls-words·lent·are-words (are-words-thm.met 𝓤 H 𝓜 𝓖 𝓡))
     (cited 𝓤 H (QueryGiven 𝓤 H (𝓖 .A) (𝓜 .mem) (𝓡 .run)) 𝓜 𝓡 code.env #refusals·querying·query-given query-given-def.routine code.calls-refusals·querying·query-given (query-given-thm.met 𝓤 H 𝓜 𝓖 𝓡))
     (cited 𝓤 H (IsRefused 𝓤 H (𝓖 .A) (𝓜 .mem) (𝓡 .run)) 𝓜 𝓡 code.env #refusals·answered·is-refused is-refused-def.routine code.calls-refusals·answered·is-refused (is-refused-thm.met 𝓤 H 𝓜 𝓖 𝓡))
     (cited 𝓤 H (Refused 𝓤 H (𝓖 .A) (𝓜 .mem) (𝓡 .run)) 𝓜 𝓡 code.env #refusals·answered·refused refused-def.routine code.calls-refusals·answered·refused (refused-thm.met 𝓤 H 𝓜 𝓖 𝓡))

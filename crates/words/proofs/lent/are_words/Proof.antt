@@ -33,13 +33,13 @@ use denote.Triple.Spec.{Meets, tripleOf}
 use denote.Triple.Table.{entered}
 use denote.Triple.Walked.{says, Stays, stay-none-slice, walkOf, goes-none-slice, Walks, ends-at, walked, walk-meets}
 use denote.Exit.{yes}
 use Rattle.words.specs.Word.{IsWord}
 use Rattle.words.proofs.Words.{fits-word}
 use Rattle.order.specs.Lists.{All}
-use Rattle.desk.proofs.words.are_words.Key.{name as #are-words}
-use Rattle.desk.proofs.words.are_words as f
-use Rattle.desk.proofs.words.are_words.Statement as stated
-use Rattle.desk.proofs.words.are_words.Code as code
+use Rattle.words.proofs.lent.are_words.Key.{name as #are-words}
+use Rattle.words.proofs.lent.are_words as f
+use Rattle.words.proofs.lent.are_words.Statement as stated
+use Rattle.words.proofs.lent.are_words.Code as code
 
 abbrev R : RattleType
 R = SInt w32
