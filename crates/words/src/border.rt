@@ -1,4 +1,4 @@
-// The border to signed words: outside this file no value is signed.
+// The border to signed words: outside this file no word is signed. (The leads of `axis` are signed differences.)
 ghost use mathlib.Core.Path.{_≡_};
 ghost use Prim.Native.Nat.{_<_, _^_};
 ghost use lib.IntN.{pos};
