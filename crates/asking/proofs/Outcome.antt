@@ -26,7 +26,7 @@ use Rattle.table.specs.Words.{Words, word, isMinusOne, pointsOf}
 use Rattle.table.specs.Page.{blankEntry}
 use Rattle.table.specs.Slots.{slots, isFree}
 use Rattle.table.specs.Stations.{stations, isPoint, stationOfEntry}
-use Rattle.rules.specs.Rules.{isEmpty}
+use Rattle.rules.specs.Rules.{isEmpty, Passing}
 use Rattle.table.proofs.Nodes.{entry-ext}
 use Rattle.rules.proofs.Tests.{by-test, and-left, and-right}
 use Rattle.rules.proofs.Joined.{all-then}
@@ -47,7 +47,7 @@ use Rattle.vetting.proofs.Testing.{count-same, passes-answers}
 use Rattle.record.specs.declared.Candidate.{Candidate}
 use Rattle.record.specs.Blank.{none}
 use Rattle.asking.specs.Records.{recordsOf, candidateIn, candidatesIn}
-use Rattle.vetting.specs.Tested.{entryOf, passesAs, nearerAs, nearerAmong, numbersPassing, Checked, Keepable}
+use Rattle.vetting.specs.Tested.{entryOf, passesAs, nearerAs, nearerAmong, numbersPassing, Keepable}
 use Rattle.asking.specs.Asked.{candidateOf, candidatesFound, Filled, Listed}
 
 candidate-ext : {c d : Candidate} → c .number ≡ d .number → c .x ≡ d .x → c .y ≡ d .y → c .square ≡ d .square → c ≡ d
@@ -61,7 +61,7 @@ empty-points ws e =
     let c = every (isFree ws) slots in
     eqb-true (pointsOf ws) 0 (and-left b c (and-right a (b && c) e))
 
-module _ {ws : Words} (t : Checked ws) where
+module _ {ws : Words} (t : Passing ws) where
   -- no more points than the rows have places
   pub points-most : pointsOf ws ≤ MOST
   points-most =

@@ -10,12 +10,12 @@ use Rattle.grid.specs.Site.{Site, placeOf}
 use Rattle.grid.specs.Place.{dist²}
 use Rattle.table.specs.declared.node.Entry.{Entry}
 use Rattle.table.specs.Words.{Words, pointsOf}
+use Rattle.rules.specs.Rules.{Passing}
 use Rattle.filter.specs.declared.seen.Seen.{Seen}
 use Rattle.filter.specs.Walk.{spotIn}
 use Rattle.filter.specs.Query.{found, answersFound, laidOver}
 use Rattle.record.specs.declared.Candidate.{Candidate}
 use Rattle.asking.specs.declared.answer.Reply.{Reply}
-use Rattle.vetting.specs.Tested.{Checked}
 
 -- the record of a candidate: point number, x, y, squared distance to q
 abbrev pub candidateOf : Site → Entry → Candidate
@@ -32,7 +32,7 @@ candidatesFound ws q k = map (candidateOf q) (found ws q k .candidates)
 
 -- the table is well formed, q is on the grid, and every point has room in the list
 pub record Askable (ws : Words) (q : Site) (places : ℕ) : Type 0 where
-  pub table : Checked ws
+  pub table : Passing ws
   pub x : onGrid (q .x) ≡ true
   pub y : onGrid (q .y) ≡ true
   pub room : pointsOf ws ≤ places

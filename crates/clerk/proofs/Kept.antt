@@ -12,7 +12,8 @@ use Rattle.refusals.specs.Refusals.{site, queryGives}
 use Rattle.refusals.specs.Cases.{ifDone}
 use Rattle.desk.specs.Calls.{Queried, afterQuery}
 use Rattle.desk.specs.Alone.{blankList}
-use Rattle.desk.specs.Demands.{Passing, enrol, withdraw}
+use Rattle.rules.specs.Rules.{Passing}
+use Rattle.desk.specs.Demands.{enrol, withdraw}
 use Rattle.refusals.proofs.Given.{by-given}
 use Rattle.desk.proofs.Granted.{query-granted}
 use Rattle.desk.proofs.Kept.{call-kept}

@@ -18,6 +18,7 @@ use Rattle.table.specs.Words.{Words, pointsOf}
 use Rattle.table.specs.Stations.{Station, stations, isPoint, stationOfEntry}
 use Rattle.table.specs.Given.{firstOf}
 use Rattle.table.specs.Empty.{emptyTable}
+use Rattle.rules.specs.Rules.{Passing}
 use Rattle.rules.proofs.Joined.{all-map, all-then}
 use Rattle.rules.proofs.Size.{sound-bounds}
 use Rattle.rules.proofs.Reading.{Point, point, held-points}
@@ -30,7 +31,6 @@ use Rattle.filter.proofs.Meaning.{count-most, few-all-answer, answering-in, her
 use Rattle.refusals.specs.Refusals.{numbersOf, queryGives}
 use Rattle.refusals.specs.Cases.{ifDone, ifFewAnswers}
 use Rattle.desk.specs.Calls.{afterQuery}
-use Rattle.desk.specs.Demands.{Passing}
 use Rattle.refusals.proofs.Given.{by-given}
 use Rattle.desk.proofs.Granted.{Within, query-granted, query-short, queryLines, passing-query}
 use Rattle.desk.proofs.Passing.{by-table, passing-points, passing-few}

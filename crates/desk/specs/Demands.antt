@@ -14,23 +14,17 @@ use Rattle.order.specs.Lists.{count, filter, All}
 use Rattle.table.specs.declared.given.Given.{Given}
 use Rattle.table.specs.declared.given.Given.the-variants.{Done, Full, FewAnswers}
 use Rattle.table.specs.Given.{Line}
-use Rattle.figures.specs.Figures.{MOST, SLOTS, LENGTH}
+use Rattle.figures.specs.Figures.{MOST, SLOTS}
 use Rattle.table.specs.Words.{Words}
 use Rattle.table.specs.Slots.{slots, isFree, levelAt}
 use Rattle.table.specs.Stations.{Station, stations}
-use Rattle.rules.specs.Rules.{wellFormed}
+use Rattle.rules.specs.Rules.{Passing}
 use Rattle.filter.specs.Meaning.{answer}
 use Rattle.audit.specs.Check.{checkLines, checkGives}
 use Rattle.filter.specs.Query.{Record, found, recordOf, recordsFound, countsOf, laidOver}
 use Rattle.refusals.specs.Refusals.{enrolLines, enrolGives, withdrawLines, withdrawGives, queryLines}
 use Rattle.refusals.specs.Cases.{ifDone}
 use Rattle.desk.specs.Calls.{afterEnrol, afterWithdraw, Queried, afterQuery, zeroCounts, onlyN}
-
--- a lent table that the check passes
-pub record Passing (ws : Words) : Type 0 where
-  pub long : length ws ≡ LENGTH
-  pub words : All IsWord ws
-  pub rules : wellFormed ws ≡ true
 
 -- ---- demand 1: every call gives the number of the first line of 01 that holds, and a refusal changes nothing, but for 10 of the query
 
