@@ -21,7 +21,7 @@ use Rattle.table.specs.Words.{Words}
 use Rattle.table.specs.Stations.{Station, stations}
 use Rattle.joining.specs.Enrol.{enrolled}
 use Rattle.leaving.specs.Withdraw.{withdrawn}
-use Rattle.filter.specs.Query.{Record, Counts, countsOf, recordsFound, answersFound, laidOver}
+use Rattle.filter.specs.Query.{Counts, countsOf, recordsFound, answersFound, laidOver}
 use Rattle.filter.proofs.Rising.{perm-filter}
 use Rattle.refusals.specs.Refusals.{enrolLines, enrolGives, withdrawLines, withdrawGives, queryLines, queryGives}
 use Rattle.refusals.specs.Cases.{ifDone, ifFewAnswers}

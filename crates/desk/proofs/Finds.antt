@@ -23,9 +23,10 @@ use Rattle.rules.proofs.Joined.{all-map, all-then}
 use Rattle.rules.proofs.Size.{sound-bounds}
 use Rattle.rules.proofs.Reading.{Point, point, held-points}
 use Rattle.rules.proofs.WellFormed.{empty-is-empty}
+use Rattle.record.specs.declared.Candidate.{Candidate}
 use Rattle.filter.specs.Meaning.{answersTo, rising, answer}
 use Rattle.filter.specs.Walk.{Found}
-use Rattle.filter.specs.Query.{Record, recordOf, found, recordsFound, answersFound, laidOver}
+use Rattle.filter.specs.Query.{recordOf, found, recordsFound, answersFound, laidOver}
 use Rattle.filter.proofs.Answers.{answers-right, candidates-few, candidates-points, opened-few, found-empty, answers-empty, answer-empty}
 use Rattle.filter.proofs.Meaning.{count-most, few-all-answer, answering-in, here-answers}
 use Rattle.refusals.specs.Refusals.{numbersOf, queryGives}
@@ -130,7 +131,7 @@ pub laid-length : {A : Type 0} (new old : List A) → length new ≤ length old 
 laid-length new old h = omega (arith, length-append new (drop (length new) old), length-drop (length new) old)
 
 -- both are as long as before
-pub query-lengths : {ws : Words} → Passing ws → (q : Site) (k : ℤ) (cs : List Record) (out : List ℕ)
+pub query-lengths : {ws : Words} → Passing ws → (q : Site) (k : ℤ) (cs : List Candidate) (out : List ℕ)
     → (length (afterQuery ws q k cs out .candidates) ≡ length cs) × (length (afterQuery ws q k cs out .answers) ≡ length out)
 unfolding afterQuery
 query-lengths {ws} p q k cs out =
