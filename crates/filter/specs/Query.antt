@@ -1,7 +1,7 @@
 -- A granted query: the candidate list, the answer list, and the three numbers.
 use Prim.Native.Nat.{ℕ}
-use mathlib.Core.Bool.{Bool, cond}
-use mathlib.Core.List.{List, [], _∷_, _++_, map}
+use mathlib.Core.Bool.{cond}
+use mathlib.Core.List.{List, [], _++_, map}
 use lib.ListN.{length, drop}
 use Rattle.words.specs.Word.{wordOf}
 use Rattle.grid.specs.Site.{Site, placeOf}
