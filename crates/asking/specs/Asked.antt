@@ -14,7 +14,7 @@ use Rattle.filter.specs.Query.{found, recordsFound, answersFound, laidOver}
 use Rattle.record.specs.declared.Candidate.{Candidate}
 use Rattle.asking.specs.declared.answer.Reply.{Reply}
 
--- the table is well formed, q is on the grid, and every point has room in the list
+-- the table passes the check, q is on the grid, and every point has room in the list
 pub record Askable (ws : Words) (q : Site) (places : ℕ) : Type 0 where
   pub table : Passing ws
   pub x : onGrid (q .x) ≡ true
