@@ -26,7 +26,7 @@ use Rattle.table.specs.Words.{Words, word, isMinusOne, pointsOf}
 use Rattle.table.specs.Page.{blankEntry}
 use Rattle.table.specs.Slots.{slots, isFree}
 use Rattle.table.specs.Stations.{stations, isPoint, stationOfEntry}
-use Rattle.rules.specs.Rules.{isEmpty}
+use Rattle.rules.specs.Rules.{isEmpty, Passing}
 use Rattle.table.proofs.Nodes.{entry-ext}
 use Rattle.rules.proofs.Tests.{by-test, and-left, and-right}
 use Rattle.rules.proofs.Joined.{all-then}
@@ -35,7 +35,7 @@ use Rattle.rules.proofs.WellFormed.{well-formed-tree}
 use Rattle.filter.specs.declared.seen.Seen.{Seen}
 use Rattle.filter.specs.Meaning.{answersTo, rising}
 use Rattle.filter.specs.Walk.{spotIn}
-use Rattle.filter.specs.Query.{found, recordsFound, answersFound, laidOver}
+use Rattle.filter.specs.Query.{found, recordOf, recordsFound, answersFound, laidOver}
 use Rattle.filter.specs.Rows.{Rows, laidIn, Room, Noted}
 use Rattle.vetting.specs.Test.{passes}
 use Rattle.filter.proofs.Answers.{found-points, found-few, found-crowded}
@@ -46,9 +46,9 @@ use Rattle.vetting.proofs.Listing.{rising-length}
 use Rattle.vetting.proofs.Testing.{count-same, passes-answers}
 use Rattle.record.specs.declared.Candidate.{Candidate}
 use Rattle.record.specs.Blank.{none}
-use Rattle.asking.specs.Records.{recordsOf, candidateIn, candidatesIn}
-use Rattle.vetting.specs.Tested.{entryOf, passesAs, nearerAs, nearerAmong, numbersPassing, Checked, Keepable}
-use Rattle.asking.specs.Asked.{candidateOf, candidatesFound, Filled, Listed}
+use Rattle.asking.specs.Records.{candidateIn, candidatesIn}
+use Rattle.vetting.specs.Tested.{entryOf, passesAs, nearerAs, nearerAmong, numbersPassing, Keepable}
+use Rattle.asking.specs.Asked.{Filled, Listed}
 
 candidate-ext : {c d : Candidate} → c .number ≡ d .number → c .x ≡ d .x → c .y ≡ d .y → c .square ≡ d .square → c ≡ d
 candidate-ext n x y s = λ i. record { number = n i; x = x i; y = y i; square = s i }
@@ -61,7 +61,7 @@ empty-points ws e =
     let c = every (isFree ws) slots in
     eqb-true (pointsOf ws) 0 (and-left b c (and-right a (b && c) e))
 
-module _ {ws : Words} (t : Checked ws) where
+module _ {ws : Words} (t : Passing ws) where
   -- no more points than the rows have places
   pub points-most : pointsOf ws ≤ MOST
   points-most =
@@ -78,7 +78,7 @@ module _ {ws : Words} (t : Checked ws) where
     -- ---- the records of the rows
 
     module _ {before after : Rows} {s : Seen} (n : Noted (placeOf q) (found ws q k) before after s) where
-      candidate-at : (i : ℕ) → i < length (found ws q k .candidates) → candidateIn after i ≡ candidateOf q (getD (found ws q k .candidates) i blankEntry)
+      candidate-at : (i : ℕ) → i < length (found ws q k .candidates) → candidateIn after i ≡ recordOf q (getD (found ws q k .candidates) i blankEntry)
       unfolding laidIn
       candidate-at i h =
           let cs = found ws q k .candidates in
@@ -88,15 +88,15 @@ module _ {ws : Words} (t : Checked ws) where
           (row-at (λ (e : Entry). wordOf (e .rect .y .low)) cs (before .ys) blankEntry (pos 0) i h)
           (row-at (λ (e : Entry). dist² (placeOf q) (spotIn e)) cs (before .squares) blankEntry 0 i h)
 
-      pub candidates-are : candidatesIn after (s .candidates) ≡ candidatesFound ws q k
-      unfolding candidatesIn candidatesFound
+      pub candidates-are : candidatesIn after (s .candidates) ≡ recordsFound ws q k
+      unfolding candidatesIn
       candidates-are =
           let cs = found ws q k .candidates in
           ap (λ (m : ℕ). map (candidateIn after) (upFrom 0 m)) (n .candidates)
-          ∙ map-both (candidateIn after) (λ i. candidateOf q (getD cs i blankEntry)) (upFrom 0 (length cs))
-          (up-all (λ i. candidateIn after i ≡ candidateOf q (getD cs i blankEntry)) 0 (length cs) (λ i l u. candidate-at i (omega arith)))
-          ∙ sym (map-map (candidateOf q) (λ i. getD cs i blankEntry) (upFrom 0 (length cs)))
-          ∙ ap (map (candidateOf q)) (pick-all cs blankEntry)
+          ∙ map-both (candidateIn after) (λ i. recordOf q (getD cs i blankEntry)) (upFrom 0 (length cs))
+          (up-all (λ i. candidateIn after i ≡ recordOf q (getD cs i blankEntry)) 0 (length cs) (λ i l u. candidate-at i (omega arith)))
+          ∙ sym (map-map (recordOf q) (λ i. getD cs i blankEntry) (upFrom 0 (length cs)))
+          ∙ ap (map (recordOf q)) (pick-all cs blankEntry)
 
       pub hand-room : Room (pointsOf ws) before → (places : ℕ) → pointsOf ws ≤ places → Room (s .candidates) after × s .candidates ≤ places
       hand-room room places h =
@@ -108,70 +108,68 @@ module _ {ws : Words} (t : Checked ws) where
     -- ---- the list that is read back
 
     -- the entry that a record is
-    entry-back : (e : Entry) → isPoint e ≡ true → entryOf (candidateOf q e) ≡ e
+    entry-back : (e : Entry) → isPoint e ≡ true → entryOf (recordOf q e) ≡ e
     entry-back e h =
         let p = point e h in
         entry-ext refl
         (ap spotOf (place-ext (steps-word (e .rect .x .low) (omega (arith, p .x .grid))) (steps-word (e .rect .y .low) (omega (arith, p .y .grid)))) ∙ sym (point-spot p))
 
     -- what is nearer by the records is nearer by the walk's test
-    near-as : (e : Entry) → isPoint e ≡ true → (c : Entry) → isPoint c ≡ true → nearerAs (candidateOf q e) (candidateOf q c) ≡ nearerTo (spotIn e) (spotIn c) (placeOf q)
+    near-as : (e : Entry) → isPoint e ≡ true → (c : Entry) → isPoint c ≡ true → nearerAs (recordOf q e) (recordOf q c) ≡ nearerTo (spotIn e) (spotIn c) (placeOf q)
     unfolding nearerAs nearerTo
     near-as e h c i =
-        ap (λ (d : Entry). nearer (dist² (spotIn d) (spotIn (entryOf (candidateOf q e)))) (dist² (placeOf q) (spotIn e))) (entry-back c i)
+        ap (λ (d : Entry). nearer (dist² (spotIn d) (spotIn (entryOf (recordOf q e)))) (dist² (placeOf q) (spotIn e))) (entry-back c i)
         ∙ ap (λ (d : Entry). nearer (dist² (spotIn c) (spotIn d)) (dist² (placeOf q) (spotIn e))) (entry-back e h)
 
-    near-among : (e : Entry) → isPoint e ≡ true → nearerAmong (candidatesFound ws q k) (candidateOf q e) ≡ count (λ c. nearerTo (spotIn e) (spotIn c) (placeOf q)) (found ws q k .candidates)
-    unfolding nearerAmong candidatesFound
+    near-among : (e : Entry) → isPoint e ≡ true → nearerAmong (recordsFound ws q k) (recordOf q e) ≡ count (λ c. nearerTo (spotIn e) (spotIn c) (placeOf q)) (found ws q k .candidates)
+    unfolding nearerAmong
     near-among e h =
         let cs = found ws q k .candidates in
-        let near : Entry → Bool = λ c. nearerAs (candidateOf q e) (candidateOf q c) in
-        count-map (nearerAs (candidateOf q e)) (candidateOf q) cs
+        let near : Entry → Bool = λ c. nearerAs (recordOf q e) (recordOf q c) in
+        count-map (nearerAs (recordOf q e)) (recordOf q) cs
         ∙ count-same near (λ c. nearerTo (spotIn e) (spotIn c) (placeOf q)) cs
         (all-then (λ c. isPoint c ≡ true) (λ c. near c ≡ nearerTo (spotIn e) (spotIn c) (placeOf q)) (near-as e h) cs points)
 
-    pass-as : (e : Entry) → isPoint e ≡ true → passesAs ws k (candidateOf q e) ≡ answersTo (stations ws) q k (stationOfEntry e)
+    pass-as : (e : Entry) → isPoint e ≡ true → passesAs ws k (recordOf q e) ≡ answersTo (stations ws) q k (stationOfEntry e)
     unfolding passesAs
     pass-as e h =
         ap (λ (d : Entry). passes ws (d .reference) (spotIn d) (dist² (placeOf q) (spotIn e)) k) (entry-back e h)
         ∙ passes-answers ws (t .long) (t .words) (t .rules) q g k e h
 
     -- a record with more than k of them nearer does not pass
-    crowded-as : (e : Entry) → isPoint e ≡ true → k < nearerAmong (candidatesFound ws q k) (candidateOf q e) → passesAs ws k (candidateOf q e) ≡ false
+    crowded-as : (e : Entry) → isPoint e ≡ true → k < nearerAmong (recordsFound ws q k) (recordOf q e) → passesAs ws k (recordOf q e) ≡ false
     crowded-as e h l = pass-as e h ∙ found-crowded ws (t .long) (t .words) (t .rules) q g k e h (omega (arith, l, near-among e h))
 
     -- those that pass, in rising order, are the answers
-    pub passing-right : rising (numbersPassing ws k (candidatesFound ws q k)) ≡ answersFound ws q k
-    unfolding numbersPassing candidatesFound answersFound
+    pub passing-right : rising (numbersPassing ws k (recordsFound ws q k)) ≡ answersFound ws q k
+    unfolding numbersPassing answersFound
     passing-right =
         let cs = found ws q k .candidates in
         let A = answersTo (stations ws) q k in
-        ap (λ l. rising (map (λ c. c .number) l)) (filter-map (passesAs ws k) (candidateOf q) cs)
-        ∙ ap rising (map-map (λ c. c .number) (candidateOf q) (filter (λ e. passesAs ws k (candidateOf q e)) cs))
+        ap (λ l. rising (map (λ c. c .number) l)) (filter-map (passesAs ws k) (recordOf q) cs)
+        ∙ ap rising (map-map (λ c. c .number) (recordOf q) (filter (λ e. passesAs ws k (recordOf q e)) cs))
         ∙ ap (λ l. rising (map (λ e. e .reference) l))
-        (filter-same (λ e. passesAs ws k (candidateOf q e)) (λ e. A (stationOfEntry e)) cs
-        (all-then (λ e. isPoint e ≡ true) (λ e. passesAs ws k (candidateOf q e) ≡ A (stationOfEntry e)) pass-as cs points))
+        (filter-same (λ e. passesAs ws k (recordOf q e)) (λ e. A (stationOfEntry e)) cs
+        (all-then (λ e. isPoint e ≡ true) (λ e. passesAs ws k (recordOf q e) ≡ A (stationOfEntry e)) pass-as cs points))
         ∙ ap rising (sym (map-map (λ p. p .number) stationOfEntry (filter (λ e. A (stationOfEntry e)) cs)))
         ∙ ap (λ l. rising (map (λ p. p .number) l)) (sym (filter-map A stationOfEntry cs))
 
     module _ {before list : List Candidate} {s : Seen} (f : Filled ws q k before list s) (room : pointsOf ws ≤ length before) where
-      many : length (candidatesFound ws q k) ≡ s .candidates
-      unfolding candidatesFound
-      many = length-map (found ws q k .candidates) (candidateOf q) ∙ sym (f .candidates)
+      many : length (recordsFound ws q k) ≡ s .candidates
+      many = length-map (found ws q k .candidates) (recordOf q) ∙ sym (f .candidates)
 
       long : length list ≡ length before
-      long = ap length (f .list) ∙ laid-length (candidatesFound ws q k) before (omega (arith, many, f .candidates, few))
+      long = ap length (f .list) ∙ laid-length (recordsFound ws q k) before (omega (arith, many, f .candidates, few))
 
-      pub front : take (s .candidates) list ≡ candidatesFound ws q k
-      front = ap (take (s .candidates)) (f .list) ∙ take-at (candidatesFound ws q k) _ (s .candidates) many
+      pub front : take (s .candidates) list ≡ recordsFound ws q k
+      front = ap (take (s .candidates)) (f .list) ∙ take-at (recordsFound ws q k) _ (s .candidates) many
 
-      record-back : (i : ℕ) → i < s .candidates → getD list i none ≡ candidateOf q (getD (found ws q k .candidates) i blankEntry)
-      unfolding candidatesFound
+      record-back : (i : ℕ) → i < s .candidates → getD list i none ≡ recordOf q (getD (found ws q k .candidates) i blankEntry)
       record-back i h =
           let cs = found ws q k .candidates in
           ap (λ (l : List Candidate). getD l i none) (f .list)
-          ∙ List·getD-append (map (candidateOf q) cs) _ none i (omega (arith, length-map cs (candidateOf q), f .candidates))
-          ∙ map-at (candidateOf q) cs blankEntry none i (omega (arith, f .candidates))
+          ∙ List·getD-append (map (recordOf q) cs) _ none i (omega (arith, length-map cs (recordOf q), f .candidates))
+          ∙ map-at (recordOf q) cs blankEntry none i (omega (arith, f .candidates))
 
       point-at : (i : ℕ) → i < s .candidates → isPoint (getD (found ws q k .candidates) i blankEntry) ≡ true
       point-at i h = all-at (λ e. isPoint e ≡ true) (found ws q k .candidates) i blankEntry (omega (arith, f .candidates)) points
@@ -188,7 +186,7 @@ module _ {ws : Words} (t : Checked ws) where
         crowded = λ i l.
             let e = getD (found ws q k .candidates) i blankEntry in
             let C : Candidate → Type 0 = λ c. k < nearerAmong (take (s .candidates) list) c → passesAs ws k c ≡ false in
-            subst C (sym (record-back i l)) (λ n. crowded-as e (point-at i l) (subst (λ (cs : List Candidate). k < nearerAmong cs (candidateOf q e)) front n));
+            subst C (sym (record-back i l)) (λ n. crowded-as e (point-at i l) (subst (λ (cs : List Candidate). k < nearerAmong cs (recordOf q e)) front n));
         places = omega (arith, f .candidates, few, points-most);
       }
 
@@ -218,8 +216,3 @@ module _ {ws : Words} (t : Checked ws) where
           candidates = f .list;
           answers = e ∙ ap (λ (l : List ℕ). cond (leb n (length old)) (laidOver l old) old) passed ∙ ap (λ (i : ℕ). cond (leb i (length old)) (laidOver (answersFound ws q k) old) old) answers-many;
         }
-
--- what the list says is what the definition of a query says
-pub records-found : (ws : Words) (q : Site) (k : ℕ) → recordsOf (candidatesFound ws q k) ≡ recordsFound ws q k
-unfolding candidatesFound
-records-found ws q k = map-map _ (candidateOf q) (found ws q k .candidates)

@@ -2,44 +2,28 @@
 use Prim.Native.Nat.{ℕ, _≤_}
 use mathlib.Core.Path.{_≡_}
 use mathlib.Core.Bool.{true, cond}
-use mathlib.Core.List.{List, map}
+use mathlib.Core.List.{List}
 use lib.Dec.{leb}
 use lib.ListN.{length}
-use Rattle.words.specs.Word.{onGrid, wordOf}
-use Rattle.grid.specs.Site.{Site, placeOf}
-use Rattle.grid.specs.Place.{dist²}
-use Rattle.table.specs.declared.node.Entry.{Entry}
+use Rattle.words.specs.Word.{onGrid}
+use Rattle.grid.specs.Site.{Site}
 use Rattle.table.specs.Words.{Words, pointsOf}
+use Rattle.rules.specs.Rules.{Passing}
 use Rattle.filter.specs.declared.seen.Seen.{Seen}
-use Rattle.filter.specs.Walk.{spotIn}
-use Rattle.filter.specs.Query.{found, answersFound, laidOver}
+use Rattle.filter.specs.Query.{found, recordsFound, answersFound, laidOver}
 use Rattle.record.specs.declared.Candidate.{Candidate}
 use Rattle.asking.specs.declared.answer.Reply.{Reply}
-use Rattle.vetting.specs.Tested.{Checked}
 
--- the record of a candidate: point number, x, y, squared distance to q
-abbrev pub candidateOf : Site → Entry → Candidate
-candidateOf q e = record {
-  number = e .reference;
-  x = wordOf (e .rect .x .low);
-  y = wordOf (e .rect .y .low);
-  square = dist² (placeOf q) (spotIn e);
-}
-
--- the records of the candidates in the order found
-unfoldable pub candidatesFound : Words → Site → ℕ → List Candidate
-candidatesFound ws q k = map (candidateOf q) (found ws q k .candidates)
-
--- the table is well formed, q is on the grid, and every point has room in the list
+-- the table passes the check, q is on the grid, and every point has room in the list
 pub record Askable (ws : Words) (q : Site) (places : ℕ) : Type 0 where
-  pub table : Checked ws
+  pub table : Passing ws
   pub x : onGrid (q .x) ≡ true
   pub y : onGrid (q .y) ≡ true
   pub room : pointsOf ws ≤ places
 
 -- after the walk: the list gets the candidates, and the two numbers are theirs
 pub record Filled (ws : Words) (q : Site) (k : ℕ) (before after : List Candidate) (s : Seen) : Type 0 where
-  pub list : after ≡ laidOver (candidatesFound ws q k) before
+  pub list : after ≡ laidOver (recordsFound ws q k) before
   pub candidates : s .candidates ≡ length (found ws q k .candidates)
   pub opened : s .opened ≡ found ws q k .opened
 
@@ -49,6 +33,6 @@ pub record Listed (ws : Words) (q : Site) (k : ℕ) (before after : List Candida
   pub m : r .m ≡ length (found ws q k .candidates)
   pub o : r .o ≡ found ws q k .opened
   -- the candidate list gets the candidates
-  pub candidates : after ≡ laidOver (candidatesFound ws q k) before
+  pub candidates : after ≡ laidOver (recordsFound ws q k) before
   -- the answer list gets the answers if it has room for them
   pub answers : new ≡ cond (leb (length (answersFound ws q k)) (length old)) (laidOver (answersFound ws q k) old) old

@@ -1,21 +1,12 @@
--- The records of the candidate list, and what each says in filter's words.
+-- The records that a walk's four plain rows make.
 use Prim.Native.Nat.{ℕ}
 use mathlib.Core.List.{List, map}
 use lib.ListN.{getD}
 use Rattle.words.specs.Word.{natOf}
 use Rattle.order.specs.Order.{upFrom}
 use Rattle.table.specs.Words.{word}
-use Rattle.filter.specs.Query.{Record}
 use Rattle.filter.specs.Rows.{Rows}
 use Rattle.record.specs.declared.Candidate.{Candidate}
-
--- what a record says
-abbrev pub recordOfCandidate : Candidate → Record
-recordOfCandidate c = record { number = c .number; x = c .x; y = c .y; square = c .square }
-
--- what the list says
-abbrev pub recordsOf : List Candidate → List Record
-recordsOf cs = map recordOfCandidate cs
 
 -- candidate i of the rows
 abbrev pub candidateIn : Rows → ℕ → Candidate

@@ -8,7 +8,7 @@ use lib.Dec.{leb, ltb}
 use lib.ListN.{length}
 use borrow.Author.Tests.{lt-ltb, le-ltb, le-leb, lt-leb}
 use Rattle.order.proofs.Lists.{by-bool}
-use Rattle.desk.specs.Demands.{Passing}
+use Rattle.rules.specs.Rules.{Passing}
 use Rattle.sheet.specs.Bytes.{Bytes, FEED}
 use Rattle.sheet.specs.Marks.{lineOf, nextOf}
 use Rattle.slip.specs.Output.{Laid}

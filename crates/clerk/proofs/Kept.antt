@@ -7,12 +7,13 @@ use lib.ListN.{length, length-take}
 use Rattle.words.specs.Word.{natOf}
 use Rattle.table.specs.declared.given.Given.{Given}
 use Rattle.table.specs.Given.{numberGiven}
+use Rattle.rules.specs.Rules.{Passing}
 use Rattle.filter.specs.Query.{answersFound, laidOver}
 use Rattle.refusals.specs.Refusals.{site, queryGives}
 use Rattle.refusals.specs.Cases.{ifDone}
 use Rattle.desk.specs.Calls.{Queried, afterQuery}
 use Rattle.desk.specs.Alone.{blankList}
-use Rattle.desk.specs.Demands.{Passing, enrol, withdraw}
+use Rattle.desk.specs.Demands.{enrol, withdraw}
 use Rattle.refusals.proofs.Given.{by-given}
 use Rattle.desk.proofs.Granted.{query-granted}
 use Rattle.desk.proofs.Kept.{call-kept}

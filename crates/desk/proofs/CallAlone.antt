@@ -3,20 +3,20 @@ use Prim.Native.Nat.{ℕ}
 use mathlib.Core.Path.{_≡_, sym, ap, _∙_}
 use mathlib.Core.List.{List}
 use lib.IntN.{ℤ}
-use lib.ListN.{length, length-map, length-replicate}
+use lib.ListN.{length, length-replicate}
 use Rattle.words.specs.Word.{natOf}
 use Rattle.grid.specs.Site.{Site}
 use Rattle.figures.specs.Figures.{MOST}
 use Rattle.table.specs.Words.{Words}
-use Rattle.filter.specs.Query.{Record, Counts, answersFound, countsOf, laidOver}
+use Rattle.filter.specs.Query.{Counts, answersFound, countsOf, laidOver}
 use Rattle.record.specs.declared.Candidate.{Candidate}
-use Rattle.asking.specs.Records.{recordOfCandidate, recordsOf}
+use Rattle.record.specs.Blank.{none}
 use Rattle.refusals.specs.declared.answered.Answered.{Answered}
 use Rattle.refusals.specs.Refusals.{queryGives}
 use Rattle.refusals.specs.Cases.{ifDone, ifFewAnswers}
 use Rattle.desk.specs.Calls.{Queried, afterQuery, zeroCounts, onlyN}
 use Rattle.desk.specs.Lent.{Answers}
-use Rattle.desk.specs.Alone.{blankRecord, blankList, AnswersAlone, AnyList}
+use Rattle.desk.specs.Alone.{blankList, AnswersAlone, AnyList}
 use Rattle.desk.proofs.CallQuery.{answered-ext}
 
 pub any-list : AnyList
@@ -32,17 +32,17 @@ any-list ws q k cs ds old e =
 
 pub blank-long : length blankList ≡ MOST
 unfolding blankList
-blank-long = length-replicate {A = Record} MOST blankRecord
+blank-long = length-replicate {A = Candidate} MOST none
 
 -- any list of 500 does
-pub answers-alone : {ws : Words} {q : Site} {k : ℤ} {before after : List Candidate} {old new : List ℕ} {r : Answered} → length before ≡ MOST
+pub answers-alone : {ws : Words} {q : Site} {k : ℤ} (before : List Candidate) {after : List Candidate} {old new : List ℕ} {r : Answered} → length before ≡ MOST
     → Answers ws q k before after old new r → AnswersAlone ws q k old new r
-answers-alone {ws} {q} {k} {before} {after} {old} long a =
-    let same = any-list ws q k (recordsOf before) blankList old (length-map before recordOfCandidate ∙ long ∙ sym blank-long) in
+answers-alone {ws} {q} {k} before {old = old} long a =
+    let same = any-list ws q k before blankList old (long ∙ sym blank-long) in
     record {
-      given = ap (λ (t : Queried). t .given) (a .says) ∙ same .given;
-      counts = ap (λ (t : Queried). t .counts) (a .says) ∙ same .counts;
-      answers = ap (λ (t : Queried). t .answers) (a .says) ∙ same .answers;
+      given = ap (λ (t : Queried). t .given) a ∙ same .given;
+      counts = ap (λ (t : Queried). t .counts) a ∙ same .counts;
+      answers = ap (λ (t : Queried). t .answers) a ∙ same .answers;
     }
 
 -- any two outcomes that the promise permits are equal

@@ -4,10 +4,10 @@ use native.Mathlib.Omega.{arith}
 use native.Mathlib.Decide.{decLt}
 use mathlib.Core.Path.{_≡_, refl, sym, ap, _∙_}
 use mathlib.Core.Bool.{Bool, true, false, not, cond}
-use mathlib.Core.List.{List, _++_, map-append}
+use mathlib.Core.List.{List}
 use lib.Dec.{T, ltb}
 use lib.IntN.{ℤ}
-use lib.ListN.{length, drop, length-map}
+use lib.ListN.{length}
 use borrow.Author.Tests.{lt-ltb, le-ltb, le-leb, lt-leb}
 use Rattle.words.specs.Word.{natOf}
 use Rattle.grid.specs.Site.{Site}
@@ -16,20 +16,17 @@ use Rattle.order.proofs.Lists.{by-leb}
 use Rattle.table.specs.declared.given.Given.{Given}
 use Rattle.table.specs.declared.given.Given.the-variants.{Done, FewAnswers}
 use Rattle.table.specs.Words.{Words}
-use Rattle.change.proofs.Shares.{map-drop}
-use Rattle.filter.specs.Query.{Record, recordsFound, answersFound, laidOver}
+use Rattle.filter.specs.Query.{answersFound, laidOver}
 use Rattle.filter.proofs.Rows.{laid-length}
 use Rattle.asking.specs.declared.answer.Reply.{Reply}
 use Rattle.record.specs.declared.Candidate.{Candidate}
-use Rattle.asking.specs.Records.{recordOfCandidate, recordsOf}
-use Rattle.asking.specs.Asked.{candidatesFound, Listed}
-use Rattle.asking.proofs.Outcome.{records-found}
+use Rattle.asking.specs.Asked.{Listed}
 use Rattle.refusals.specs.Refusals.{queryGives}
 use Rattle.desk.specs.Calls.{afterQuery}
 use Rattle.refusals.specs.Cases.{refuses}
 use Rattle.refusals.specs.Told.{nAlone, allThree, told}
-use Rattle.desk.specs.Lent.{listAfter, Answers}
-use Rattle.refusals.proofs.Given.{by-given, if-refused, if-not-few}
+use Rattle.desk.specs.Lent.{Answers}
+use Rattle.refusals.proofs.Given.{by-given}
 use Rattle.refusals.proofs.QueryOrder.{answersTold, query-early, not-few, query-late}
 use Rattle.desk.proofs.CallQuery.{after-refused, queried-ext, counts-ext}
 
@@ -58,14 +55,7 @@ module _ (ws : Words) (q : Site) (k : ℤ) where
   -- a refusal before the answers are known
   pub list-refused : (cs : List Candidate) (out : List ℕ) {g : Given} → g ≡ queryGives ws q k (length cs) (answersTold ws q k) → (g ≡ Done → ⊥)
       → Answers ws q k cs cs out out (record { given = g; n = 0; m = 0; o = 0 })
-  unfolding listAfter
-  list-refused cs out {g} e d =
-      let h = query-early ws q k (length cs) e d (length out) in
-      let f = not-few ws q k (length cs) e in
-      record {
-        says = after-refused ws q k (recordsOf cs) out (h ∙ ap (λ m. queryGives ws q k m (length out)) (sym (length-map cs recordOfCandidate))) d f;
-        list = rw (← h) (sym (if-refused g d _ _ ∙ if-not-few g f _ _));
-      }
+  list-refused cs out e d = after-refused ws q k cs out (query-early ws q k (length cs) e d (length out)) d (not-few ws q k (length cs) e)
 
   module _ (before after : List Candidate) (old new : List ℕ) (reply : Reply) (r : Listed ws q (natOf k) before after old new reply)
       {g : Given} (e : g ≡ queryGives ws q k (length before) (answersTold ws q k)) (done : g ≡ Done) where
@@ -73,19 +63,6 @@ module _ (ws : Words) (q : Site) (k : ℤ) where
     last =
         query-late ws q k (length before) e done (length old)
         ∙ ap (λ m. cond (ltb (length old) m) FewAnswers Done) (sym (r .n))
-
-    -- the candidates stand in the list
-    recorded : recordsOf after ≡ laidOver (recordsFound ws q (natOf k)) (recordsOf before)
-    recorded =
-        let cs = candidatesFound ws q (natOf k) in
-        ap recordsOf (r .candidates)
-        ∙ map-append recordOfCandidate cs (drop (length cs) before)
-        ∙ ap (λ (l : List Record). recordsOf cs ++ l) (map-drop recordOfCandidate (length cs) before ∙ ap (λ (n : ℕ). drop n (recordsOf before)) (sym (length-map cs recordOfCandidate)))
-        ∙ ap (λ (l : List Record). laidOver l (recordsOf before)) (records-found ws q (natOf k))
-
-    module _ {h : Given} (given : queryGives ws q k (length before) (length old) ≡ h) where
-      given-records : queryGives ws q k (length (recordsOf before)) (length old) ≡ h
-      given-records = ap (λ m. queryGives ws q k m (length old)) (length-map before recordOfCandidate) ∙ given
 
     -- the answer list is as long as it was
     new-length : length new ≡ length old
@@ -96,25 +73,19 @@ module _ (ws : Words) (q : Site) (k : ℤ) where
 
     -- one that is too short stays, and m and o are not told
     list-few : length new < reply .n → Answers ws q k before after old new (nAlone (reply .n))
-    unfolding afterQuery listAfter
+    unfolding afterQuery
     list-few short =
         let h : queryGives ws q k (length before) (length old) ≡ FewAnswers = last ∙ rw (lt-ltb (length old) (reply .n) (omega (arith, new-length))) in
         let kept : new ≡ old = r .answers ∙ rw (lt-leb (answersTold ws q k) (length old) (omega (arith, new-length, r .n))) in
-        record {
-          says = rw (given-records h) (queried-ext refl (counts-ext (r .n) refl refl) recorded kept);
-          list = rw h (r .candidates);
-        }
+        rw h (queried-ext refl (counts-ext (r .n) refl refl) (r .candidates) kept)
 
     list-done : reply .n ≤ length new → Answers ws q k before after old new (allThree reply)
-    unfolding afterQuery listAfter
+    unfolding afterQuery
     list-done enough =
         let h : queryGives ws q k (length before) (length old) ≡ Done = last ∙ rw (le-ltb (length old) (reply .n) (omega (arith, new-length))) in
         let laid : new ≡ laidOver (answersFound ws q (natOf k)) old =
         r .answers ∙ rw (le-leb (answersTold ws q k) (length old) (omega (arith, new-length, r .n))) in
-        record {
-          says = rw (given-records h) (queried-ext refl (counts-ext (r .n) (r .m) (r .o)) recorded laid);
-          list = rw h (r .candidates);
-        }
+        rw h (queried-ext refl (counts-ext (r .n) (r .m) (r .o)) (r .candidates) laid)
 
     pub list-told : Answers ws q k before after old new (told reply (length old))
     list-told = go (decLt (length new) (reply .n))

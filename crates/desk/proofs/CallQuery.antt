@@ -8,13 +8,12 @@ use Rattle.grid.specs.Site.{Site}
 use Rattle.table.specs.declared.given.Given.{Given}
 use Rattle.table.specs.declared.given.Given.the-variants.{Done, FewAnswers}
 use Rattle.table.specs.Words.{Words}
-use Rattle.filter.specs.Query.{Record, Counts}
+use Rattle.filter.specs.Query.{Counts}
 use Rattle.record.specs.declared.Candidate.{Candidate}
-use Rattle.asking.specs.Records.{recordsOf}
 use Rattle.refusals.specs.declared.answered.Answered.{Answered}
 use Rattle.refusals.specs.Refusals.{queryGives}
 use Rattle.desk.specs.Calls.{Queried, afterQuery}
-use Rattle.desk.specs.Lent.{queried, Answers}
+use Rattle.desk.specs.Lent.{queried}
 use Rattle.refusals.proofs.Given.{if-refused, if-not-few}
 
 -- ---- what a refusal leaves behind
@@ -26,7 +25,7 @@ pub counts-ext : {a b : Counts} → a .n ≡ b .n → a .m ≡ b .m → a .o ≡
 counts-ext n m o = λ i. record { n = n i; m = m i; o = o i }
 
 module _ (ws : Words) (q : Site) (k : ℤ) where
-  pub after-refused : (cs : List Record) (out : List ℕ) {g : Given} → g ≡ queryGives ws q k (length cs) (length out) → (g ≡ Done → ⊥) → (g ≡ FewAnswers → ⊥)
+  pub after-refused : (cs : List Candidate) (out : List ℕ) {g : Given} → g ≡ queryGives ws q k (length cs) (length out) → (g ≡ Done → ⊥) → (g ≡ FewAnswers → ⊥)
       → queried (record { given = g; n = 0; m = 0; o = 0 }) cs out ≡ afterQuery ws q k cs out
   unfolding afterQuery
   after-refused cs out {g} e d f =
@@ -38,11 +37,11 @@ module _ (ws : Words) (q : Site) (k : ℤ) where
 pub answered-ext : {r s : Answered} → r .given ≡ s .given → r .n ≡ s .n → r .m ≡ s .m → r .o ≡ s .o → r ≡ s
 answered-ext g n m o = λ i. record { given = g i; n = n i; m = m i; o = o i }
 
-pub answers-once : {ws : Words} {q : Site} {k : ℤ} {before after after′ : List Candidate} {old new new′ : List ℕ} {r r′ : Answered}
-    → Answers ws q k before after old new r → Answers ws q k before after′ old new′ r′ → (after ≡ after′) × (new ≡ new′) × (r ≡ r′)
+pub answers-once : {t : Queried} {after after′ : List Candidate} {new new′ : List ℕ} {r r′ : Answered} → queried r after new ≡ t → queried r′ after′ new′ ≡ t
+    → (after ≡ after′) × (new ≡ new′) × (r ≡ r′)
 answers-once {after = after} {after′ = after′} {new = new} {new′ = new′} {r = r} {r′ = r′} a b =
-    let e : queried r (recordsOf after) new ≡ queried r′ (recordsOf after′) new′ = a .says ∙ sym (b .says) in (
-      a .list ∙ sym (b .list),
+    let e : queried r after new ≡ queried r′ after′ new′ = a ∙ sym b in (
+      ap (λ x. x .candidates) e,
       ap (λ x. x .answers) e,
       answered-ext (ap (λ x. x .given) e) (ap (λ x. x .counts .n) e) (ap (λ x. x .counts .m) e) (ap (λ x. x .counts .o) e),
     )

@@ -19,14 +19,15 @@ use Rattle.table.specs.Given.{Line, numberGiven, firstOf}
 use Rattle.audit.specs.Check.{checkLines, checkGives}
 use Rattle.table.specs.Words.{Words}
 use Rattle.table.specs.Stations.{Station, stations}
+use Rattle.rules.specs.Rules.{Passing}
 use Rattle.joining.specs.Enrol.{enrolled}
 use Rattle.leaving.specs.Withdraw.{withdrawn}
-use Rattle.filter.specs.Query.{Record, Counts, countsOf, recordsFound, answersFound, laidOver}
+use Rattle.filter.specs.Query.{Counts, countsOf, recordsFound, answersFound, laidOver}
 use Rattle.filter.proofs.Rising.{perm-filter}
 use Rattle.refusals.specs.Refusals.{enrolLines, enrolGives, withdrawLines, withdrawGives, queryLines, queryGives}
 use Rattle.refusals.specs.Cases.{ifDone, ifFewAnswers}
 use Rattle.desk.specs.Calls.{pointEntry, afterEnrol, afterWithdraw, afterQuery, zeroCounts, onlyN}
-use Rattle.desk.specs.Demands.{Passing, First, Exactly, Demand1, Granted, Demand2, Call, enrol, withdraw, look, tableAfter, pointsAfter, pointsAfterAll, Demand3, AnyCalls}
+use Rattle.desk.specs.Demands.{First, Exactly, Demand1, Granted, Demand2, Call, enrol, withdraw, look, tableAfter, pointsAfter, pointsAfterAll, Demand3, AnyCalls}
 use Rattle.refusals.proofs.Given.{if-refused, if-not-few, by-done}
 use Rattle.desk.proofs.Granted.{full-points}
 use Rattle.desk.proofs.Passing.{passing-points, passing-few, passing-nodes, passing-levels}

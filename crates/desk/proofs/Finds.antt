@@ -18,19 +18,20 @@ use Rattle.table.specs.Words.{Words, pointsOf}
 use Rattle.table.specs.Stations.{Station, stations, isPoint, stationOfEntry}
 use Rattle.table.specs.Given.{firstOf}
 use Rattle.table.specs.Empty.{emptyTable}
+use Rattle.rules.specs.Rules.{Passing}
 use Rattle.rules.proofs.Joined.{all-map, all-then}
 use Rattle.rules.proofs.Size.{sound-bounds}
 use Rattle.rules.proofs.Reading.{Point, point, held-points}
 use Rattle.rules.proofs.WellFormed.{empty-is-empty}
+use Rattle.record.specs.declared.Candidate.{Candidate}
 use Rattle.filter.specs.Meaning.{answersTo, rising, answer}
 use Rattle.filter.specs.Walk.{Found}
-use Rattle.filter.specs.Query.{Record, recordOf, found, recordsFound, answersFound, laidOver}
+use Rattle.filter.specs.Query.{recordOf, found, recordsFound, answersFound, laidOver}
 use Rattle.filter.proofs.Answers.{answers-right, candidates-few, candidates-points, opened-few, found-empty, answers-empty, answer-empty}
 use Rattle.filter.proofs.Meaning.{count-most, few-all-answer, answering-in, here-answers}
 use Rattle.refusals.specs.Refusals.{numbersOf, queryGives}
 use Rattle.refusals.specs.Cases.{ifDone, ifFewAnswers}
 use Rattle.desk.specs.Calls.{afterQuery}
-use Rattle.desk.specs.Demands.{Passing}
 use Rattle.refusals.proofs.Given.{by-given}
 use Rattle.desk.proofs.Granted.{Within, query-granted, query-short, queryLines, passing-query}
 use Rattle.desk.proofs.Passing.{by-table, passing-points, passing-few}
@@ -130,7 +131,7 @@ pub laid-length : {A : Type 0} (new old : List A) → length new ≤ length old 
 laid-length new old h = omega (arith, length-append new (drop (length new) old), length-drop (length new) old)
 
 -- both are as long as before
-pub query-lengths : {ws : Words} → Passing ws → (q : Site) (k : ℤ) (cs : List Record) (out : List ℕ)
+pub query-lengths : {ws : Words} → Passing ws → (q : Site) (k : ℤ) (cs : List Candidate) (out : List ℕ)
     → (length (afterQuery ws q k cs out .candidates) ≡ length cs) × (length (afterQuery ws q k cs out .answers) ≡ length out)
 unfolding afterQuery
 query-lengths {ws} p q k cs out =

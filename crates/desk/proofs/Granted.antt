@@ -27,13 +27,12 @@ use Rattle.table.specs.declared.given.Given.the-variants.{
 }
 use Rattle.figures.specs.Figures.{MOST, LENGTH, HIGHEST}
 use Rattle.table.specs.Words.{Words, pointsOf, between}
-use Rattle.rules.specs.Rules.{wellFormed}
+use Rattle.rules.specs.Rules.{wellFormed, Passing}
 use Rattle.table.specs.Given.{Line, line, firstOf}
 use Rattle.audit.specs.Check.{wrongLength, malformed, checkGives}
 use Rattle.filter.specs.Query.{answersFound}
 use Rattle.rules.proofs.Tests.{and-left, and-right, between-true}
 use Rattle.refusals.specs.Refusals.{noSuchNumber, offGrid, noSuchK, isEnrolled, isFull, enrolGives, withdrawGives, queryGives}
-use Rattle.desk.specs.Demands.{Passing}
 use Rattle.refusals.proofs.Given.{passed-before, last-holds, all-passed}
 
 -- ---- a line that is passed

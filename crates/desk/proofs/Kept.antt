@@ -24,6 +24,7 @@ use Rattle.table.specs.Words.{Words}
 use Rattle.table.specs.Stations.{Station, stationOfEntry, stations, spanIsSpot, isPoint}
 use Rattle.table.specs.Empty.{emptyTable}
 use Rattle.table.specs.Tree.{bough, leavesOf}
+use Rattle.rules.specs.Rules.{Passing}
 use Rattle.rules.proofs.Tests.{both-true, true-between}
 use Rattle.rules.proofs.Reading.{held-points}
 use Rattle.rules.proofs.Held.{held-stations}
@@ -37,7 +38,7 @@ use Rattle.filter.proofs.Rising.{perm-filter}
 use Rattle.filter.proofs.Meaning.{filter-all}
 use Rattle.refusals.specs.Refusals.{isEnrolled, enrolGives, withdrawGives}
 use Rattle.desk.specs.Calls.{pointEntry, afterEnrol, afterWithdraw}
-use Rattle.desk.specs.Demands.{Passing, Call, enrol, withdraw, look, tableAfter, without, pointsAfter}
+use Rattle.desk.specs.Demands.{Call, enrol, withdraw, look, tableAfter, without, pointsAfter}
 use Rattle.refusals.proofs.Given.{by-done}
 use Rattle.desk.proofs.Granted.{Within, EnrolGranted, enrol-granted, withdraw-granted}
 use Rattle.desk.proofs.Passing.{empty-passing, held-passing, by-table, numbers, leafNumbers, held-numbers}

@@ -27,7 +27,7 @@ use Rattle.rules.proofs.EmptyTable.{empty-blank}
 use Rattle.rules.proofs.Held.{held-complete, held-fits, held-stations, held-stations-length, subtree-here}
 use Rattle.rules.proofs.WellFormed.{Held, well-formed-means, tree-well-formed, empty-length, empty-fits, empty-well-formed, empty-stations}
 use Rattle.filter.proofs.Meaning.{count-none}
-use Rattle.desk.specs.Demands.{Passing}
+use Rattle.rules.specs.Rules.{Passing}
 
 -- ---- the two cases
 

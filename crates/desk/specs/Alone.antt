@@ -2,21 +2,19 @@
 use Prim.Native.Nat.{ℕ}
 use mathlib.Core.Path.{_≡_}
 use mathlib.Core.List.{List}
-use lib.IntN.{ℤ, pos}
+use lib.IntN.{ℤ}
 use lib.ListN.{length, replicate}
 use Rattle.grid.specs.Site.{Site}
 use Rattle.figures.specs.Figures.{MOST}
 use Rattle.table.specs.Words.{Words}
-use Rattle.filter.specs.Query.{Record}
+use Rattle.record.specs.declared.Candidate.{Candidate}
+use Rattle.record.specs.Blank.{none}
 use Rattle.refusals.specs.declared.answered.Answered.{Answered}
 use Rattle.desk.specs.Calls.{Queried, afterQuery}
 
-abbrev pub blankRecord : Record
-blankRecord = record { number = 0; x = pos 0; y = pos 0; square = 0 }
-
 -- a list of 500
-unfoldable pub blankList : List Record
-blankList = replicate MOST blankRecord
+unfoldable pub blankList : List Candidate
+blankList = replicate MOST none
 
 -- what such a query promises of the answer list before and after it, and of what it hands back
 pub record AnswersAlone (ws : Words) (q : Site) (k : ℤ) (old new : List ℕ) (r : Answered) : Type 0 where
@@ -32,5 +30,5 @@ pub record SameAnswers (a b : Queried) : Type 0 where
 
 -- what stood in the candidate list decides nothing else: only its length counts
 abbrev pub AnyList : Type 0
-AnyList = (ws : Words) (q : Site) (k : ℤ) (cs ds : List Record) (old : List ℕ) → length cs ≡ length ds
+AnyList = (ws : Words) (q : Site) (k : ℤ) (cs ds : List Candidate) (old : List ℕ) → length cs ≡ length ds
     → SameAnswers (afterQuery ws q k cs old) (afterQuery ws q k ds old)

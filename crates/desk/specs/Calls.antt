@@ -10,7 +10,8 @@ use Rattle.table.specs.declared.node.Entry.{Entry}
 use Rattle.table.specs.Words.{Words}
 use Rattle.joining.specs.Enrol.{enrolled}
 use Rattle.leaving.specs.Withdraw.{withdrawn}
-use Rattle.filter.specs.Query.{Record, Counts, recordsFound, answersFound, countsOf, laidOver}
+use Rattle.record.specs.declared.Candidate.{Candidate}
+use Rattle.filter.specs.Query.{Counts, recordsFound, answersFound, countsOf, laidOver}
 use Rattle.table.specs.declared.given.Given.{Given}
 use Rattle.refusals.specs.Refusals.{enrolGives, withdrawGives, queryGives}
 use Rattle.refusals.specs.Cases.{ifDone, ifFewAnswers}
@@ -31,7 +32,7 @@ afterWithdraw ws n = ifDone (withdrawGives ws n) (withdrawn ws (natOf n)) ws
 pub record Queried : Type 0 where
   pub given : Given
   pub counts : Counts
-  pub candidates : List Record
+  pub candidates : List Candidate
   pub answers : List ℕ
 
 abbrev pub zeroCounts : Counts
@@ -41,7 +42,7 @@ zeroCounts = record { n = 0; m = 0; o = 0 }
 abbrev pub onlyN : Counts → Counts
 onlyN c = record { n = c .n; m = 0; o = 0 }
 
-unfoldable pub afterQuery : Words → Site → ℤ → List Record → List ℕ → Queried
+unfoldable pub afterQuery : Words → Site → ℤ → List Candidate → List ℕ → Queried
 afterQuery ws q k candidates answers =
     let g = queryGives ws q k (length candidates) (length answers) in
     let counts = countsOf ws q (natOf k) in

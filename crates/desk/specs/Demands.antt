@@ -14,23 +14,18 @@ use Rattle.order.specs.Lists.{count, filter, All}
 use Rattle.table.specs.declared.given.Given.{Given}
 use Rattle.table.specs.declared.given.Given.the-variants.{Done, Full, FewAnswers}
 use Rattle.table.specs.Given.{Line}
-use Rattle.figures.specs.Figures.{MOST, SLOTS, LENGTH}
+use Rattle.figures.specs.Figures.{MOST, SLOTS}
 use Rattle.table.specs.Words.{Words}
 use Rattle.table.specs.Slots.{slots, isFree, levelAt}
 use Rattle.table.specs.Stations.{Station, stations}
-use Rattle.rules.specs.Rules.{wellFormed}
+use Rattle.rules.specs.Rules.{Passing}
 use Rattle.filter.specs.Meaning.{answer}
 use Rattle.audit.specs.Check.{checkLines, checkGives}
-use Rattle.filter.specs.Query.{Record, found, recordOf, recordsFound, countsOf, laidOver}
+use Rattle.record.specs.declared.Candidate.{Candidate}
+use Rattle.filter.specs.Query.{found, recordOf, recordsFound, countsOf, laidOver}
 use Rattle.refusals.specs.Refusals.{enrolLines, enrolGives, withdrawLines, withdrawGives, queryLines}
 use Rattle.refusals.specs.Cases.{ifDone}
 use Rattle.desk.specs.Calls.{afterEnrol, afterWithdraw, Queried, afterQuery, zeroCounts, onlyN}
-
--- a lent table that the check passes
-pub record Passing (ws : Words) : Type 0 where
-  pub long : length ws ≡ LENGTH
-  pub words : All IsWord ws
-  pub rules : wellFormed ws ≡ true
 
 -- ---- demand 1: every call gives the number of the first line of 01 that holds, and a refusal changes nothing, but for 10 of the query
 
@@ -51,17 +46,17 @@ pub record Demand1 : Type 0 where
   pub check : (ws : Words) → Exactly (checkLines ws) (checkGives ws)
   pub enrol : (ws : Words) (n : ℤ) (p : Site) → Exactly (enrolLines ws n p) (enrolGives ws n p)
   pub withdraw : (ws : Words) (n : ℤ) → Exactly (withdrawLines ws n) (withdrawGives ws n)
-  pub query : (ws : Words) (q : Site) (k : ℤ) (cs : List Record) (out : List ℕ)
+  pub query : (ws : Words) (q : Site) (k : ℤ) (cs : List Candidate) (out : List ℕ)
       → Exactly (queryLines ws q k (length cs) (length out)) (afterQuery ws q k cs out .given)
   -- a refused enrolment or withdrawal leaves the table as it was
   pub enrolRefused : (ws : Words) (n : ℤ) (p : Site) → (enrolGives ws n p ≡ Done → ⊥) → afterEnrol ws n p ≡ ws
   pub withdrawRefused : (ws : Words) (n : ℤ) → (withdrawGives ws n ≡ Done → ⊥) → afterWithdraw ws n ≡ ws
   -- a refused query: zero counts, and both lists as they were
-  pub queryRefused : (ws : Words) (q : Site) (k : ℤ) (cs : List Record) (out : List ℕ)
+  pub queryRefused : (ws : Words) (q : Site) (k : ℤ) (cs : List Candidate) (out : List ℕ)
       → (afterQuery ws q k cs out .given ≡ Done → ⊥) → (afterQuery ws q k cs out .given ≡ FewAnswers → ⊥)
       → (afterQuery ws q k cs out .counts ≡ zeroCounts) × (afterQuery ws q k cs out .candidates ≡ cs) × (afterQuery ws q k cs out .answers ≡ out)
   -- but for 10: it gives n, leaves the candidate list as a success would, and the answer list as it was
-  pub short : (ws : Words) (q : Site) (k : ℤ) (cs : List Record) (out : List ℕ) → afterQuery ws q k cs out .given ≡ FewAnswers
+  pub short : (ws : Words) (q : Site) (k : ℤ) (cs : List Candidate) (out : List ℕ) → afterQuery ws q k cs out .given ≡ FewAnswers
       → (afterQuery ws q k cs out .counts ≡ onlyN (countsOf ws q (natOf k)))
       × (afterQuery ws q k cs out .candidates ≡ laidOver (recordsFound ws q (natOf k)) cs)
       × (afterQuery ws q k cs out .answers ≡ out)
@@ -69,7 +64,7 @@ pub record Demand1 : Type 0 where
 -- ---- demand 2: a granted query lists, rising, exactly the stations that have fewer than k others nearer than the place; its candidates and its count
 -- of opened nodes are those of 01's filter walk
 
-pub record Granted (ws : Words) (q : Site) (k : ℕ) (cs : List Record) (out : List ℕ) (r : Queried) : Type 0 where
+pub record Granted (ws : Words) (q : Site) (k : ℕ) (cs : List Candidate) (out : List ℕ) (r : Queried) : Type 0 where
   -- the answers, by the meaning alone: no tree and no walk
   pub answers : r .answers ≡ laidOver (answer (stations ws) q k) out
   pub n : r .counts .n ≡ length (answer (stations ws) q k)
@@ -79,7 +74,7 @@ pub record Granted (ws : Words) (q : Site) (k : ℕ) (cs : List Record) (out : L
   pub o : r .counts .o ≡ found ws q k .opened
 
 abbrev pub Demand2 : Type 0
-Demand2 = (ws : Words) → All IsWord ws → (q : Site) (k : ℤ) (cs : List Record) (out : List ℕ)
+Demand2 = (ws : Words) → All IsWord ws → (q : Site) (k : ℤ) (cs : List Candidate) (out : List ℕ)
     → afterQuery ws q k cs out .given ≡ Done → Granted ws q (natOf k) cs out (afterQuery ws q k cs out)
 
 -- ---- demand 3: what the table is and holds after any calls

@@ -4,4 +4,4 @@ use Rattle.export.specs.Told.{ToldOnce}
 
 pub told-once : ToldOnce
 told-once ws q k before after after′ old new new′ row told told′ r r′ a b =
-    (a .list ∙ sym (b .list), a .answers ∙ sym (b .answers), a .counts ∙ sym (b .counts), a .given ∙ sym (b .given))
+    (a .candidates ∙ sym (b .candidates), a .answers ∙ sym (b .answers), a .counts ∙ sym (b .counts), a .given ∙ sym (b .given))

@@ -36,9 +36,8 @@ pub telling : (ws : Words) (q : Site) (k : ℤ) (before after : List Candidate) 
     → Answers ws q k before after old new a → r ≡ numberGiven (a .given) → told ≡ countsLaid (record { n = a .n; m = a .m; o = a .o }) row
     → Told ws q k before after old new row told r
 telling ws q k before after old new row told a r s g c = record {
-  given = g ∙ ap (λ (z : Queried). numberGiven (z .given)) (s .says);
-  list = s .list;
-  candidates = ap (λ (z : Queried). z .candidates) (s .says);
-  answers = ap (λ (z : Queried). z .answers) (s .says);
-  counts = c ∙ ap (λ (z : Queried). countsLaid (z .counts) row) (s .says);
+  given = g ∙ ap (λ (z : Queried). numberGiven (z .given)) s;
+  candidates = ap (λ (z : Queried). z .candidates) s;
+  answers = ap (λ (z : Queried). z .answers) s;
+  counts = c ∙ ap (λ (z : Queried). countsLaid (z .counts) row) s;
 }

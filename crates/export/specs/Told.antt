@@ -11,9 +11,7 @@ use Rattle.table.specs.Words.{Words}
 use Rattle.table.specs.Given.{numberGiven}
 use Rattle.filter.specs.Query.{Counts, laidOver}
 use Rattle.record.specs.declared.Candidate.{Candidate}
-use Rattle.asking.specs.Records.{recordsOf}
 use Rattle.desk.specs.Calls.{afterQuery}
-use Rattle.desk.specs.Lent.{listAfter}
 
 -- n, m and o laid over the front of the lent row; a row of fewer than three places gets nothing
 abbrev pub countsLaid : Counts → List ℕ → List ℕ
@@ -21,11 +19,10 @@ countsLaid c row = cond (ltb (length row) 3) row (laidOver (c .n ∷ c .m ∷ c 
 
 -- what the caller is told, and what each lent list holds afterwards
 pub record Told (ws : Words) (q : Site) (k : ℤ) (before after : List Candidate) (old new row told : List ℕ) (r : ℕ) : Type 0 where
-  pub given : r ≡ numberGiven (afterQuery ws q k (recordsOf before) old .given)
-  pub list : after ≡ listAfter ws q k before old
-  pub candidates : recordsOf after ≡ afterQuery ws q k (recordsOf before) old .candidates
-  pub answers : new ≡ afterQuery ws q k (recordsOf before) old .answers
-  pub counts : told ≡ countsLaid (afterQuery ws q k (recordsOf before) old .counts) row
+  pub given : r ≡ numberGiven (afterQuery ws q k before old .given)
+  pub candidates : after ≡ afterQuery ws q k before old .candidates
+  pub answers : new ≡ afterQuery ws q k before old .answers
+  pub counts : told ≡ countsLaid (afterQuery ws q k before old .counts) row
 
 -- any two outcomes that this permits are equal
 abbrev pub ToldOnce : Type 0

@@ -1,13 +1,13 @@
 -- A granted query: the candidate list, the answer list, and the three numbers.
 use Prim.Native.Nat.{ℕ}
-use mathlib.Core.Bool.{Bool, cond}
-use mathlib.Core.List.{List, [], _∷_, _++_, map}
-use lib.IntN.{ℤ}
+use mathlib.Core.Bool.{cond}
+use mathlib.Core.List.{List, [], _++_, map}
 use lib.ListN.{length, drop}
 use Rattle.words.specs.Word.{wordOf}
 use Rattle.grid.specs.Site.{Site, placeOf}
 use Rattle.grid.specs.Place.{dist²}
 use Rattle.order.specs.Lists.{filter}
+use Rattle.record.specs.declared.Candidate.{Candidate}
 use Rattle.table.specs.declared.node.Entry.{Entry}
 use Rattle.table.specs.Words.{Words, rootOf}
 use Rattle.table.specs.Slots.{levelAt}
@@ -23,14 +23,8 @@ nothing = record { candidates = []; opened = 0 }
 unfoldable pub found : Words → Site → ℕ → Found
 found ws q k = cond (isEmpty ws) nothing (walk (placeOf q) k (levelAt ws (rootOf ws)) ws (rootOf ws) nothing)
 
--- a record of the candidate list: point number, x, y, squared distance to q
-pub record Record : Type 0 where
-  pub number : ℕ
-  pub x : ℤ
-  pub y : ℤ
-  pub square : ℕ
-
-abbrev pub recordOf : Site → Entry → Record
+-- the record of a candidate: point number, x, y, squared distance to q
+abbrev pub recordOf : Site → Entry → Candidate
 recordOf q e = record {
   number = e .reference;
   x = wordOf (e .rect .x .low);
@@ -38,8 +32,8 @@ recordOf q e = record {
   square = dist² (placeOf q) (spotIn e);
 }
 
--- the candidates in the order found
-abbrev pub recordsFound : Words → Site → ℕ → List Record
+-- the records of the candidates in the order found
+abbrev pub recordsFound : Words → Site → ℕ → List Candidate
 recordsFound ws q k = map (recordOf q) (found ws q k .candidates)
 
 -- then each candidate is tested by the meaning against the whole table; the numbers in rising order

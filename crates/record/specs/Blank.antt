@@ -1,4 +1,4 @@
--- The record that stands past the end of a candidate list.
+-- The blank record: it fills a list before a query, and stands past the end of any list.
 use lib.IntN.{pos}
 use Rattle.record.specs.declared.Candidate.{Candidate}
 

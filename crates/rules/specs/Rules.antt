@@ -1,18 +1,19 @@
 -- 01, "Well formed means all of": the seven rules, each as a test of one slot; a test of the two header words has no slot.
 -- A rule may count on the rules before it: what it says of a table that breaks one of those does not matter.
 use Prim.Native.Nat.{ℕ, suc, _+_, _*_}
+use mathlib.Core.Path.{_≡_}
 use mathlib.Core.Bool.{Bool, true, false, cond, not, _&&_, _||_}
 use mathlib.Core.List.{List, [], _∷_, _++_, map}
 use lib.Dec.{eqb, leb, ltb}
 use lib.IntN.{ℤ, pos, negsuc}
 use lib.ListN.{length, drop}
-use Rattle.words.specs.Word.{natOf}
+use Rattle.words.specs.Word.{IsWord, natOf}
 use Rattle.grid.specs.declared.rect.Rect.{Rect}
 use Rattle.axis.specs.declared.span.Span.{Span}
 use Rattle.order.specs.Order.{upFrom}
-use Rattle.order.specs.Lists.{count, every, has, join}
+use Rattle.order.specs.Lists.{count, every, has, join, All}
 use Rattle.table.specs.declared.node.Entry.{Entry}
-use Rattle.figures.specs.Figures.{FAN, LEAST, MOST, SLOTS, ENTRY}
+use Rattle.figures.specs.Figures.{FAN, LEAST, MOST, SLOTS, ENTRY, LENGTH}
 use Rattle.table.specs.Words.{Words, between, word, isZero, isMinusOne, rootOf, pointsOf, partAt}
 use Rattle.table.specs.Page.{filled, coverOf}
 use Rattle.table.specs.Slots.{slots, isFree, levelAt, entriesAt}
@@ -115,3 +116,9 @@ wellFormed ws =
     && (every (rule5 ws) slots
     && (every (rule6 ws) slots
     && (rule7Header ws && every (rule7 ws) slots))))))
+
+-- a lent table that the check passes
+pub record Passing (ws : Words) : Type 0 where
+  pub long : length ws ≡ LENGTH
+  pub words : All IsWord ws
+  pub rules : wellFormed ws ≡ true

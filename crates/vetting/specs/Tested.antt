@@ -4,16 +4,15 @@ use mathlib.Core.Path.{_≡_}
 use mathlib.Core.Bool.{Bool, true, false}
 use mathlib.Core.List.{List, map}
 use lib.ListN.{length, getD, take}
-use Rattle.words.specs.Word.{IsWord, stepsOf}
+use Rattle.words.specs.Word.{stepsOf}
 use Rattle.grid.specs.declared.place.Place.{Place}
 use Rattle.grid.specs.Nearer.{nearer}
 use Rattle.grid.specs.Place.{spotOf, dist²}
-use Rattle.order.specs.Lists.{All, filter, count}
+use Rattle.order.specs.Lists.{filter, count}
 use Rattle.table.specs.declared.node.Entry.{Entry}
-use Rattle.figures.specs.Figures.{LENGTH}
 use Rattle.table.specs.Words.{Words}
 use Rattle.table.specs.Stations.{isPoint}
-use Rattle.rules.specs.Rules.{wellFormed}
+use Rattle.rules.specs.Rules.{Passing}
 use Rattle.vetting.specs.Test.{passes}
 use Rattle.record.specs.declared.Candidate.{Candidate}
 use Rattle.record.specs.Blank.{none}
@@ -42,12 +41,6 @@ nearerAmong cs c = count (nearerAs c) cs
 unfoldable pub numbersPassing : Words → ℕ → List Candidate → List ℕ
 numbersPassing ws k cs = map (λ c. c .number) (filter (passesAs ws k) cs)
 
--- the table is well formed
-pub record Checked (ws : Words) : Type 0 where
-  pub long : length ws ≡ LENGTH
-  pub words : All IsWord ws
-  pub rules : wellFormed ws ≡ true
-
 -- the first m records are candidates
 pub record Readable (cs : List Candidate) (m : ℕ) : Type 0 where
   pub room : m ≤ length cs
@@ -55,7 +48,7 @@ pub record Readable (cs : List Candidate) (m : ℕ) : Type 0 where
 
 -- they can be tested, and as many numbers have room
 pub record Keepable (ws : Words) (cs : List Candidate) (k m free : ℕ) : Type 0 where
-  pub table : Checked ws
+  pub table : Passing ws
   pub list : Readable cs m
   -- a candidate with more than k of them nearer does not pass: all but one of these are others
   pub crowded : (i : ℕ) → i < m → k < nearerAmong (take m cs) (getD cs i none) → passesAs ws k (getD cs i none) ≡ false

@@ -4,8 +4,9 @@ ghost use mathlib.Core.Bool.{true, false, cond};
 ghost use Prim.Native.Nat.{_+_, _<_};
 ghost use lib.ListN.{length, set, take};
 ghost use Rattle.table.specs.Stations.{isPoint};
+ghost use Rattle.rules.specs.Rules.{Passing};
 ghost use Rattle.filter.specs.Query.{laidOver};
-ghost use Rattle.vetting.specs.Tested.{entryOf, passesAs, numbersPassing, Checked, Keepable};
+ghost use Rattle.vetting.specs.Tested.{entryOf, passesAs, numbersPassing, Keepable};
 use crate::near::nearer_in;
 use crate::near::place_of;
 use crate::test::passes;
@@ -15,7 +16,7 @@ use record::record_at;
 // If the candidate passes, its number goes to place n of `kept`; gives back the next free place.
 // `near` of the candidates are nearer to it than the query's place is. It is at most one of them: if they are more than k, k others are nearer, and the tree need not be asked.
 fn noted(table: &[i32], c: Candidate, near: usize, k: usize, kept: &mut [u32], n: usize) -> usize
-    requires { ⌜ Checked (now table) × (isPoint (entryOf c) ≡ true) × (n < length (now kept)) × (k < near → passesAs (now table) k c ≡ false) ⌝ }
+    requires { ⌜ Passing (now table) × (isPoint (entryOf c) ≡ true) × (n < length (now kept)) × (k < near → passesAs (now table) k c ≡ false) ⌝ }
     ensures { λ r.
         ⌜
         (r ≡ cond (passesAs (now (table .entry)) k c) (n + 1) n)

@@ -199,7 +199,7 @@ module _ {M : Type 1} (𝓤 : URA M) (H : Heap 𝓤) (A : Atoms 𝓤) (W : Rules
         move ! (3 ∷ 9 ∷ 7 ∷ []) $ use3 W (later (‵ (Whole R 500 l₆ (vs .1 .1 .1 .1 .0)))) (ends R 500 l₆ 𝓤 H A W p (vs .1 .1 .1 .1 .0)) $ await ! tt $ use1 W (some (λ (v : Val). ‵ (fat fullShare (tyArray (lone (R .mir)) 500) l₆ 0 v) ⊛ ‵ (Array R 500 .own (vs .1 .1 .1 .1 .0) (v ∷ [])))) (taken R 500 l₆ 𝓤 H A W (vs .1 .1 .1 .1 .0)) $ pick ! (λ v. split ! $
         returns ! (look ! 32 refl) $ forget ! 11 refl $ forget ! 13 refl $ forget ! 15 refl $ forget ! 17 refl $ forget ! 19 refl $ forget ! 0 refl $ forget ! 22 refl $ forget ! 24 refl $ forget ! 26 refl $ forget ! 28 refl $ forget ! 30 refl $ forget ! 32 refl $
         move ! (32 ∷ 33 ∷ []) $ free1 ! $ move ! (30 ∷ 31 ∷ []) $ free1 ! $ move ! (28 ∷ 29 ∷ []) $ free1 ! $ move ! (26 ∷ 27 ∷ []) $ free1 ! $ move ! (24 ∷ 25 ∷ []) $ free1 ! $ move ! (22 ∷ 23 ∷ []) $ free1 ! $ move ! (0 ∷ 21 ∷ []) $ free1 ! $ move ! (18 ∷ 19 ∷ []) $ free1 ! $ move ! (16 ∷ 17 ∷ []) $ free1 ! $ move ! (14 ∷ 15 ∷ []) $ free1 ! $ move ! (12 ∷ 13 ∷ []) $ free1 ! $ move ! (10 ∷ 11 ∷ []) $ free1 ! $ free0 ! $
-        keep ! (4 ∷ 2 ∷ 7 ∷ 5 ∷ 1 ∷ []) $ by ! (exits (vs .1 .1 .1 .1 .1 .0) r u l′ (answers-alone n answered)))))))))))))))))))))))))))
+        keep ! (4 ∷ 2 ∷ 7 ∷ 5 ∷ 1 ∷ []) $ by ! (exits (vs .1 .1 .1 .1 .1 .0) r u l′ (answers-alone cs n answered)))))))))))))))))))))))))))
 
 module _ {M : Type 1} (𝓤 : URA M) (H : Heap 𝓤) (A : Atoms 𝓤) (W : Rules 𝓤 H A) (mem : Memory → SProp 𝓤) (run : Routine → Fun 𝓤) where
   answers-walks : (C : Calls 𝓤 H) (Λ : Loops 𝓤 H) → FmC 𝓤 H (W .laws) C → Triple 𝓤 (C #desk·answers·blank-list) (Blank 𝓤 H A mem run) → Triple 𝓤 (C #desk·query·query-passing) (Passing 𝓤 H A mem run) → Walks 𝓤 H A f.ended stayed (WpFn 𝓤 H C Λ code.function) (f.clauses 𝓤 H A mem run)
