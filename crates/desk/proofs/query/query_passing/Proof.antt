@@ -14,15 +14,15 @@ use base.Logic.{SProp, ent, sep, emp, id⊢}
 use base.Fml.{Fml, ftrue, flft, fat}
 use prog.Memory.{Memory}
 use prog.Routine.{Routine}
-use prog.Wp.{Heap, Env, Calls, Loops, WpFn, Tables}
+use prog.Wp.{Heap, Env, Calls, Loops, WpFn}
 use ghost.Atoms.{Atoms, sem}
 use contract.Monad.{Fun, fact}
 use contract.Lifetimes.{Lfts, Shares}
-use contract.Running.{givenOf, tables, tablesOf}
+use contract.Running.{givenOf}
 use types.Kit.{Given as Rules, ‵, raw, atRet, _⊛_, ⋆, some, later, _$_, _∵_, !, qed, by, move, keep, drop, use0, use1, use2, group, split, join, pick, rewrite, fsplit, fjoin, feqL, suffices, frame, await, done}
 use types.Run.{look, init, store, forget, stop, hop, fld, from, load, addr, of-opd, and-then, no-more, assigns, land, first, skips, branches, returns-within, returns, enter, alloc1, alloc0, params1, pass1, pass0, free1, free0, exec}
 use types.Part.{agg, whole, sub, look-in}
-use sound.WpLaws.{FmC, fmOf, WpFn-mono}
+use sound.WpLaws.{FmC}
 use denote.RattleType.{RattleType, owns}
 use denote.Laws.{Is, shows}
 use denote.Plain.{uint-makes, uint-lawful, bool-lawful, nothing-lawful}
@@ -35,12 +35,12 @@ use denote.Steps.{only, owned, peeks, heard, nothing}
 use denote.Struct.Laws as LL
 use denote.Enum.Laws as EL
 use denote.Triple.Entry.{onEntry}
-use denote.Triple.Spec.{Meets, tripleOf}
+use denote.Triple.Spec.{tripleOf}
 use denote.Triple.Statement.{Contract, Triple}
 use denote.Triple.Call.{calls-at}
 use denote.Triple.Clauses.{ensured, lasts}
-use denote.Triple.Table.{entered, cited}
-use denote.Triple.Walked.{says, needs, Stays, gave-slice, stay-none-slice, stay-none, walkOf, goes-gave-slice, goes-none-slice, goes-none, Walks, ends-at, walked, walk-meets}
+use denote.Triple.Table.{cited}
+use denote.Triple.Walked.{says, needs, Stays, gave-slice, stay-none-slice, stay-none, walkOf, goes-gave-slice, goes-none-slice, goes-none, ends-at}
 use denote.Exit.{yes}
 use Rattle.grid.specs.Site.{Site}
 use Rattle.table.specs.declared.given.Given.{Given}
@@ -48,6 +48,7 @@ use Rattle.table.proofs.given.Given as G
 use Rattle.table.proofs.given.Given.Laws as G′
 use Rattle.record.specs.declared.Candidate.{Candidate}
 use Rattle.record.proofs.Candidate as C′
+use Rattle.walks.proofs.Ends.{closes}
 use Rattle.walks.proofs.WalkSteps.{env, lets-go}
 use Rattle.refusals.specs.declared.answered.Answered.{Answered}
 use Rattle.refusals.specs.Refusals.{site, queryGives}
@@ -320,33 +321,21 @@ module _ {M : Type 1} (𝓤 : URA M) (H : Heap 𝓤) (A : Atoms 𝓤) (W : Rules
         move ! (41 ∷ 42 ∷ []) $ free1 ! $ move ! (39 ∷ 40 ∷ []) $ free1 ! $ move ! (37 ∷ 38 ∷ []) $ free1 ! $ move ! (35 ∷ 36 ∷ []) $ free1 ! $ move ! (33 ∷ 34 ∷ []) $ free1 ! $ move ! (31 ∷ 32 ∷ []) $ free1 ! $ move ! (29 ∷ 30 ∷ []) $ free1 ! $ move ! (27 ∷ 28 ∷ []) $ free1 ! $ move ! (25 ∷ 26 ∷ []) $ free1 ! $ move ! (23 ∷ 24 ∷ []) $ free1 ! $ move ! (21 ∷ 22 ∷ []) $ free1 ! $ move ! (19 ∷ 20 ∷ []) $ free1 ! $ move ! (17 ∷ 18 ∷ []) $ free1 ! $ move ! (15 ∷ 16 ∷ []) $ free1 ! $ move ! (13 ∷ 14 ∷ []) $ free1 ! $ move ! (11 ∷ 12 ∷ []) $ free1 ! $ free0 ! $
         keep ! (5 ∷ 4 ∷ 2 ∷ 9 ∷ 8 ∷ 6 ∷ 0 ∷ []) $ by ! (exits (vs .1 .1 .1 .1 .0) (vs .1 .1 .1 .1 .1 .0) r u l₁ l₂ (subst (Answers ws q zk ys (vs .1 .1 .1 .1 .0) (now ar) (vs .1 .1 .1 .1 .1 .0)) (sym h) (list-told ws q zk ys (vs .1 .1 .1 .1 .0) (now ar) (vs .1 .1 .1 .1 .1 .0) p (subst (λ (j : ℕ). Listed ws q j ys (vs .1 .1 .1 .1 .0) (now ar) (vs .1 .1 .1 .1 .1 .0) p) ek listed) e granted))))))))))))))))))))))))))))))))))))))))))))))))))))
 
-module _ {M : Type 1} (𝓤 : URA M) (H : Heap 𝓤) (A : Atoms 𝓤) (W : Rules 𝓤 H A) (mem : Memory → SProp 𝓤) (run : Routine → Fun 𝓤) where
-  query-passing-walks : (C : Calls 𝓤 H) (Λ : Loops 𝓤 H) → FmC 𝓤 H (W .laws) C → Triple 𝓤 (C #words·lent·are-words) (AreWords 𝓤 H A mem run) → Triple 𝓤 (C #refusals·querying·query-given) (QueryGiven 𝓤 H A mem run) → Triple 𝓤 (C #refusals·answered·is-refused) (IsRefused 𝓤 H A mem run) → Triple 𝓤 (C #refusals·answered·refused) (Refused 𝓤 H A mem run) → Triple 𝓤 (C #words·border·natural) (Natural 𝓤 H A mem run) → Triple 𝓤 (C #asking·answer·answer) (Answer 𝓤 H A mem run) → Triple 𝓤 (C #refusals·answered·handed-back) (HandedBack 𝓤 H A mem run) → Walks 𝓤 H A f.ended stayed (WpFn 𝓤 H C Λ code.function) (f.clauses 𝓤 H A mem run)
-  query-passing-walks C Λ fm known-words known-given known-is-refused known-refused known-natural known-answer known-handed = walked 𝓤 H A f.ended stayed (f.clauses 𝓤 H A mem run) (WpFn 𝓤 H C Λ code.function)
-      (λ κs. (slice-vals, (sint-vals w32, (sint-vals w32, (sint-vals w32, (slice-vals, (slice-vals, tt)))))))
-      (λ κs. (shr-slice-tells (named 0) (κs .0) i32, (sint-tells w32, (sint-tells w32, (sint-tells w32, (mut-slice-tells (named 1) (κs .1 .0) R, (mut-slice-tells (named 2) (κs .1 .1 .0) u32, tt)))))))
-      (λ κs qs bounds a g are. needs 𝓤 ((length (now (a .0)) ≡ LENGTH) × (wellFormed (now (a .0)) ≡ true)) _ (λ pre.
-      walk 𝓤 H A W mem run κs qs (a .0) (a .1 .0) (a .1 .1 .0) (a .1 .1 .1 .0) (a .1 .1 .1 .1 .0) (a .1 .1 .1 .1 .1 .0) (are .0 .0 .1) (are .1 .0) (are .1 .1 .0) (are .1 .1 .1 .0) (are .1 .1 .1 .1 .0 .0 .1) (are .1 .1 .1 .1 .1 .0 .0 .1) pre C Λ fm known-words known-given known-is-refused known-refused known-natural known-answer known-handed))
-
-query-passing-meets : {M : Type 1} (𝓤 : URA M) (H : Heap 𝓤) (A : Atoms 𝓤) → Rules 𝓤 H A → (mem : Memory → SProp 𝓤) (run : Routine → Fun 𝓤) (𝓣 : Tables 𝓤 H) → Triple 𝓤 (𝓣 .C #words·lent·are-words) (AreWords 𝓤 H A mem run) → Triple 𝓤 (𝓣 .C #refusals·querying·query-given) (QueryGiven 𝓤 H A mem run) → Triple 𝓤 (𝓣 .C #refusals·answered·is-refused) (IsRefused 𝓤 H A mem run) → Triple 𝓤 (𝓣 .C #refusals·answered·refused) (Refused 𝓤 H A mem run) → Triple 𝓤 (𝓣 .C #words·border·natural) (Natural 𝓤 H A mem run) → Triple 𝓤 (𝓣 .C #asking·answer·answer) (Answer 𝓤 H A mem run) → Triple 𝓤 (𝓣 .C #refusals·answered·handed-back) (HandedBack 𝓤 H A mem run)
-    → Meets 𝓤 H A f.signature (WpFn 𝓤 H (𝓣 .C) (𝓣 .Λ) code.function) (f.spec 𝓤 H A mem run)
-query-passing-meets 𝓤 H A W mem run 𝓣 known-words known-given known-is-refused known-refused known-natural known-answer known-handed =
-    walk-meets 𝓤 H A f.ended stayed W (
-      goes-none-slice 𝓤 H A W 3 (0 ∷ []) tt (plain (λ _. i32)) yes,
-      (goes-none 𝓤 H A W 3 (λ _. i32) yes (λ κs x f. refl), (goes-none 𝓤 H A W 3 (λ _. i32) yes (λ κs x f. refl), (goes-none 𝓤 H A W 3 (λ _. i32) yes (λ κs x f. refl), (goes-gave-slice 𝓤 H A W 3 1 tt (plain (λ _. R)), (goes-gave-slice 𝓤 H A W 3 2 tt (plain (λ _. u32)), tt))))),
-    ) (f.clauses 𝓤 H A mem run)
-    (WpFn 𝓤 H (𝓣 .C) (𝓣 .Λ) code.function) (WpFn-mono 𝓤 H (W .laws) 𝓣 code.function) (query-passing-walks 𝓤 H A W mem run (𝓣 .C) (𝓣 .Λ) (fmOf 𝓤 H (W .laws) 𝓣) known-words known-given known-is-refused known-refused known-natural known-answer known-handed)
-
 pub query-passing-spec : {M : Type 1} → stated.statement M
-unfolding code.routine tablesOf
+unfolding code.routine
 query-passing-spec 𝓤 H 𝓜 𝓖 𝓡 =
-    entered 𝓤 H (tripleOf 𝓤 H (𝓖 .A) f.signature (f.spec 𝓤 H (𝓖 .A) (𝓜 .mem) (𝓡 .run)))
-    (tables 𝓤 H 𝓜 𝓡 code.env .C) (tables 𝓤 H 𝓜 𝓡 code.env .Λ) #desk·query·query-passing code.function (code.unfolded 𝓤 H 𝓜 𝓡)
-    (query-passing-meets 𝓤 H (𝓖 .A) (givenOf 𝓤 H 𝓜 𝓖) (𝓜 .mem) (𝓡 .run) (tablesOf 𝓤 H 𝓜 (tables 𝓤 H 𝓜 𝓡 code.env))
-    (cited 𝓤 H (AreWords 𝓤 H (𝓖 .A) (𝓜 .mem) (𝓡 .run)) 𝓜 𝓡 code.env #words·lent·are-words are-words-def.routine code.calls-words·lent·are-words (are-words-thm.met 𝓤 H 𝓜 𝓖 𝓡))
-    (cited 𝓤 H (QueryGiven 𝓤 H (𝓖 .A) (𝓜 .mem) (𝓡 .run)) 𝓜 𝓡 code.env #refusals·querying·query-given query-given-def.routine code.calls-refusals·querying·query-given (query-given-thm.met 𝓤 H 𝓜 𝓖 𝓡))
-    (cited 𝓤 H (IsRefused 𝓤 H (𝓖 .A) (𝓜 .mem) (𝓡 .run)) 𝓜 𝓡 code.env #refusals·answered·is-refused is-refused-def.routine code.calls-refusals·answered·is-refused (is-refused-thm.met 𝓤 H 𝓜 𝓖 𝓡))
-    (cited 𝓤 H (Refused 𝓤 H (𝓖 .A) (𝓜 .mem) (𝓡 .run)) 𝓜 𝓡 code.env #refusals·answered·refused refused-def.routine code.calls-refusals·answered·refused (refused-thm.met 𝓤 H 𝓜 𝓖 𝓡))
-    (cited 𝓤 H (Natural 𝓤 H (𝓖 .A) (𝓜 .mem) (𝓡 .run)) 𝓜 𝓡 code.env #words·border·natural natural-def.routine code.calls-words·border·natural (natural-thm.met 𝓤 H 𝓜 𝓖 𝓡))
-    (cited 𝓤 H (Answer 𝓤 H (𝓖 .A) (𝓜 .mem) (𝓡 .run)) 𝓜 𝓡 code.env #asking·answer·answer answer-def.routine code.calls-asking·answer·answer (answer-thm.met 𝓤 H 𝓜 𝓖 𝓡))
-    (cited 𝓤 H (HandedBack 𝓤 H (𝓖 .A) (𝓜 .mem) (𝓡 .run)) 𝓜 𝓡 code.env #refusals·answered·handed-back handed-back-def.routine code.calls-refusals·answered·handed-back (handed-back-thm.met 𝓤 H 𝓜 𝓖 𝓡)))
+    let W = givenOf 𝓤 H 𝓜 𝓖 in
+    let words-met = cited 𝓤 H (AreWords 𝓤 H (𝓖 .A) (𝓜 .mem) (𝓡 .run)) 𝓜 𝓡 code.env #words·lent·are-words are-words-def.routine code.calls-words·lent·are-words (are-words-thm.met 𝓤 H 𝓜 𝓖 𝓡) in
+    let given-met = cited 𝓤 H (QueryGiven 𝓤 H (𝓖 .A) (𝓜 .mem) (𝓡 .run)) 𝓜 𝓡 code.env #refusals·querying·query-given query-given-def.routine code.calls-refusals·querying·query-given (query-given-thm.met 𝓤 H 𝓜 𝓖 𝓡) in
+    let is-refused-met = cited 𝓤 H (IsRefused 𝓤 H (𝓖 .A) (𝓜 .mem) (𝓡 .run)) 𝓜 𝓡 code.env #refusals·answered·is-refused is-refused-def.routine code.calls-refusals·answered·is-refused (is-refused-thm.met 𝓤 H 𝓜 𝓖 𝓡) in
+    let refused-met = cited 𝓤 H (Refused 𝓤 H (𝓖 .A) (𝓜 .mem) (𝓡 .run)) 𝓜 𝓡 code.env #refusals·answered·refused refused-def.routine code.calls-refusals·answered·refused (refused-thm.met 𝓤 H 𝓜 𝓖 𝓡) in
+    let natural-met = cited 𝓤 H (Natural 𝓤 H (𝓖 .A) (𝓜 .mem) (𝓡 .run)) 𝓜 𝓡 code.env #words·border·natural natural-def.routine code.calls-words·border·natural (natural-thm.met 𝓤 H 𝓜 𝓖 𝓡) in
+    let answer-met = cited 𝓤 H (Answer 𝓤 H (𝓖 .A) (𝓜 .mem) (𝓡 .run)) 𝓜 𝓡 code.env #asking·answer·answer answer-def.routine code.calls-asking·answer·answer (answer-thm.met 𝓤 H 𝓜 𝓖 𝓡) in
+    let handed-met = cited 𝓤 H (HandedBack 𝓤 H (𝓖 .A) (𝓜 .mem) (𝓡 .run)) 𝓜 𝓡 code.env #refusals·answered·handed-back handed-back-def.routine code.calls-refusals·answered·handed-back (handed-back-thm.met 𝓤 H 𝓜 𝓖 𝓡) in
+    closes 𝓤 H 𝓜 𝓖 𝓡 code.env #desk·query·query-passing code.function (code.unfolded 𝓤 H 𝓜 𝓡) f.ended stayed (
+      goes-none-slice 𝓤 H (𝓖 .A) W 3 (0 ∷ []) tt (plain (λ _. i32)) yes,
+      (goes-none 𝓤 H (𝓖 .A) W 3 (λ _. i32) yes (λ κs x f. refl), (goes-none 𝓤 H (𝓖 .A) W 3 (λ _. i32) yes (λ κs x f. refl), (goes-none 𝓤 H (𝓖 .A) W 3 (λ _. i32) yes (λ κs x f. refl), (goes-gave-slice 𝓤 H (𝓖 .A) W 3 1 tt (plain (λ _. R)), (goes-gave-slice 𝓤 H (𝓖 .A) W 3 2 tt (plain (λ _. u32)), tt))))),
+    ) (f.clauses 𝓤 H (𝓖 .A) (𝓜 .mem) (𝓡 .run))
+    (λ κs. (slice-vals, (sint-vals w32, (sint-vals w32, (sint-vals w32, (slice-vals, (slice-vals, tt)))))))
+    (λ κs. (shr-slice-tells (named 0) (κs .0) i32, (sint-tells w32, (sint-tells w32, (sint-tells w32, (mut-slice-tells (named 1) (κs .1 .0) R, (mut-slice-tells (named 2) (κs .1 .1 .0) u32, tt)))))))
+    (λ fm x g are. needs 𝓤 _ _ (λ pre. walk 𝓤 H (𝓖 .A) W (𝓜 .mem) (𝓡 .run) (x .0) (x .1) (x .3 .0) (x .3 .1 .0) (x .3 .1 .1 .0) (x .3 .1 .1 .1 .0) (x .3 .1 .1 .1 .1 .0) (x .3 .1 .1 .1 .1 .1 .0) (are .0 .0 .1) (are .1 .0) (are .1 .1 .0) (are .1 .1 .1 .0) (are .1 .1 .1 .1 .0 .0 .1) (are .1 .1 .1 .1 .1 .0 .0 .1) pre _ _ fm words-met given-met is-refused-met refused-met natural-met answer-met handed-met))
