@@ -12,15 +12,15 @@ use base.Logic.{SProp, ent, sep, emp, id⊢, via, fst∗}
 use base.Fml.{Fml, ftrue, flft}
 use prog.Memory.{Memory}
 use prog.Routine.{Routine}
-use prog.Wp.{Heap, Calls, Loops, WpFn, Tables}
+use prog.Wp.{Heap, Calls, Loops, WpFn}
 use ghost.Atoms.{Atoms, sem}
 use contract.Monad.{Fun, fact}
 use contract.Lifetimes.{Lfts, Shares}
-use contract.Running.{givenOf, tables, tablesOf}
+use contract.Running.{givenOf}
 use types.Kit.{Given, ‵, raw, _⊛_, ⋆, some, later, _$_, _∵_, !, qed, by, move, keep, drop, use1, group, split, join, pick, fsplit, fjoin, feqL, suffices, frame, await, done}
 use types.Run.{look, init, forget, stop, hop, fld, from, load, addr, and-then, no-more, assigns, land, returns, enter, alloc1, alloc0, params1, pass1, pass0, free1, free0}
 use types.Part.{agg, whole, sub, look-in}
-use sound.WpLaws.{FmC, fmOf, WpFn-mono}
+use sound.WpLaws.{FmC}
 use denote.RattleType.{RattleType, owns}
 use denote.Laws.{Is, shows}
 use denote.Plain.{uint-lawful}
@@ -32,12 +32,12 @@ use denote.Signature.{plain}
 use denote.Steps.{owned, peeks, heard, nothing}
 use denote.Struct.Laws as LL
 use denote.Triple.Entry.{onEntry}
-use denote.Triple.Spec.{Meets, tripleOf}
+use denote.Triple.Spec.{tripleOf}
 use denote.Triple.Statement.{Contract, Triple}
 use denote.Triple.Call.{calls-at}
 use denote.Triple.Clauses.{ensured, lasts}
-use denote.Triple.Table.{entered, cited}
-use denote.Triple.Walked.{says, Stays, gave-slice, stay-none-slice, stay-none, walkOf, goes-gave-slice, goes-none-slice, goes-none, Walks, ends-at, walked, walk-meets}
+use denote.Triple.Table.{cited}
+use denote.Triple.Walked.{says, Stays, gave-slice, stay-none-slice, stay-none, walkOf, goes-gave-slice, goes-none-slice, goes-none, ends-at}
 use denote.Exit.{yes}
 use Rattle.grid.specs.Site.{Site}
 use Rattle.table.specs.Given.{numberGiven}
@@ -45,6 +45,7 @@ use Rattle.record.specs.declared.Candidate.{Candidate}
 use Rattle.record.proofs.Candidate as C′
 use Rattle.refusals.specs.declared.answered.Answered.{Answered}
 use Rattle.refusals.specs.Refusals.{site}
+use Rattle.walks.proofs.Ends.{closes}
 use Rattle.desk.specs.Lent.{Answers}
 use Rattle.refusals.proofs.answered.Answered as T
 use Rattle.refusals.proofs.answered.Answered.Laws as T′
@@ -205,31 +206,19 @@ module _ {M : Type 1} (𝓤 : URA M) (H : Heap 𝓤) (A : Atoms 𝓤) (W : Given
         move ! (33 ∷ 34 ∷ []) $ free1 ! $ move ! (31 ∷ 32 ∷ []) $ free1 ! $ move ! (29 ∷ 30 ∷ []) $ free1 ! $ move ! (27 ∷ 28 ∷ []) $ free1 ! $ move ! (25 ∷ 26 ∷ []) $ free1 ! $ move ! (23 ∷ 24 ∷ []) $ free1 ! $ move ! (21 ∷ 22 ∷ []) $ free1 ! $ move ! (19 ∷ 20 ∷ []) $ free1 ! $ move ! (17 ∷ 18 ∷ []) $ free1 ! $ move ! (15 ∷ 16 ∷ []) $ free1 ! $ move ! (13 ∷ 14 ∷ []) $ free1 ! $ move ! (11 ∷ 12 ∷ []) $ free1 ! $ move ! (9 ∷ 10 ∷ []) $ free1 ! $ move ! (7 ∷ 8 ∷ []) $ free1 ! $ move ! (5 ∷ 6 ∷ []) $ free1 ! $ free0 ! $
         keep ! (5 ∷ 6 ∷ 7 ∷ 1 ∷ 8 ∷ 9 ∷ 10 ∷ 3 ∷ 0 ∷ []) $ by ! (exits (vs .1 .1 .1 .1 .0) (vs .1 .1 .1 .1 .1 .0) (ts .1 .0) n v l₁′ l₂′ l₃′ (telling ws q zk ys (vs .1 .1 .1 .1 .0) (now ar) (vs .1 .1 .1 .1 .1 .0) (now cr) (ts .1 .0) r n answered given counted)))))))))))))))))))))))))))))))
 
-module _ {M : Type 1} (𝓤 : URA M) (H : Heap 𝓤) (A : Atoms 𝓤) (W : Given 𝓤 H A) (mem : Memory → SProp 𝓤) (run : Routine → Fun 𝓤) where
-  query-walks : (C : Calls 𝓤 H) (Λ : Loops 𝓤 H) → FmC 𝓤 H (W .laws) C → Triple 𝓤 (C #desk·query·query) (Query 𝓤 H A mem run) → Triple 𝓤 (C #export·told) (Told′ 𝓤 H A mem run) → Walks 𝓤 H A f.ended stayed (WpFn 𝓤 H C Λ code.function) (f.clauses 𝓤 H A mem run)
-  query-walks C Λ fm known-query known-told = walked 𝓤 H A f.ended stayed (f.clauses 𝓤 H A mem run) (WpFn 𝓤 H C Λ code.function)
-      (λ κs. (slice-vals, (sint-vals w32, (sint-vals w32, (sint-vals w32, (slice-vals, (slice-vals, (slice-vals, tt))))))))
-      (λ κs. (shr-slice-tells (named 0) (κs .0) i32, (sint-tells w32, (sint-tells w32, (sint-tells w32, (mut-slice-tells (named 1) (κs .1 .0) R, (mut-slice-tells (named 2) (κs .1 .1 .0) u32, (mut-slice-tells (named 3) (κs .1 .1 .1 .0) u64, tt))))))))
-      (λ κs qs bounds a g are. via 𝓤 _ (fst∗ 𝓤 _ (emp 𝓤))
-      (walk 𝓤 H A W mem run κs qs (a .0) (a .1 .0) (a .1 .1 .0) (a .1 .1 .1 .0) (a .1 .1 .1 .1 .0) (a .1 .1 .1 .1 .1 .0) (a .1 .1 .1 .1 .1 .1 .0) (are .0 .0 .1) (are .1 .0) (are .1 .1 .0) (are .1 .1 .1 .0) (are .1 .1 .1 .1 .0 .0 .1) (are .1 .1 .1 .1 .1 .0 .0 .1) (are .1 .1 .1 .1 .1 .1 .0 .0 .1) C Λ fm known-query known-told))
-
-query-meets : {M : Type 1} (𝓤 : URA M) (H : Heap 𝓤) (A : Atoms 𝓤) → Given 𝓤 H A → (mem : Memory → SProp 𝓤) (run : Routine → Fun 𝓤) (𝓣 : Tables 𝓤 H) → Triple 𝓤 (𝓣 .C #desk·query·query) (Query 𝓤 H A mem run) → Triple 𝓤 (𝓣 .C #export·told) (Told′ 𝓤 H A mem run)
-    → Meets 𝓤 H A f.signature (WpFn 𝓤 H (𝓣 .C) (𝓣 .Λ) code.function) (f.spec 𝓤 H A mem run)
-query-meets 𝓤 H A W mem run 𝓣 known-query known-told =
-    walk-meets 𝓤 H A f.ended stayed W (
-      goes-none-slice 𝓤 H A W 4 (0 ∷ []) tt (plain (λ _. i32)) yes,
-      (
-        goes-none 𝓤 H A W 4 (λ _. i32) yes (λ κs x f. refl),
-        (goes-none 𝓤 H A W 4 (λ _. i32) yes (λ κs x f. refl), (goes-none 𝓤 H A W 4 (λ _. i32) yes (λ κs x f. refl), (goes-gave-slice 𝓤 H A W 4 1 tt (plain (λ _. R)), (goes-gave-slice 𝓤 H A W 4 2 tt (plain (λ _. u32)), (goes-gave-slice 𝓤 H A W 4 3 tt (plain (λ _. u64)), tt))))),
-      ),
-    ) (f.clauses 𝓤 H A mem run)
-    (WpFn 𝓤 H (𝓣 .C) (𝓣 .Λ) code.function) (WpFn-mono 𝓤 H (W .laws) 𝓣 code.function) (query-walks 𝓤 H A W mem run (𝓣 .C) (𝓣 .Λ) (fmOf 𝓤 H (W .laws) 𝓣) known-query known-told)
-
 pub ullagreth-query-spec : {M : Type 1} → stated.statement M
-unfolding code.routine tablesOf
+unfolding code.routine
 ullagreth-query-spec 𝓤 H 𝓜 𝓖 𝓡 =
-    entered 𝓤 H (tripleOf 𝓤 H (𝓖 .A) f.signature (f.spec 𝓤 H (𝓖 .A) (𝓜 .mem) (𝓡 .run)))
-    (tables 𝓤 H 𝓜 𝓡 code.env .C) (tables 𝓤 H 𝓜 𝓡 code.env .Λ) #export·ullagreth-query code.function (code.unfolded 𝓤 H 𝓜 𝓡)
-    (query-meets 𝓤 H (𝓖 .A) (givenOf 𝓤 H 𝓜 𝓖) (𝓜 .mem) (𝓡 .run) (tablesOf 𝓤 H 𝓜 (tables 𝓤 H 𝓜 𝓡 code.env))
-    (cited 𝓤 H (Query 𝓤 H (𝓖 .A) (𝓜 .mem) (𝓡 .run)) 𝓜 𝓡 code.env #desk·query·query query-def.routine code.calls-desk·query·query (query-thm.met 𝓤 H 𝓜 𝓖 𝓡))
-    (cited 𝓤 H (Told′ 𝓤 H (𝓖 .A) (𝓜 .mem) (𝓡 .run)) 𝓜 𝓡 code.env #export·told told-def.routine code.calls-export·told (told-thm.met 𝓤 H 𝓜 𝓖 𝓡)))
+    let W = givenOf 𝓤 H 𝓜 𝓖 in
+    let query-met = cited 𝓤 H (Query 𝓤 H (𝓖 .A) (𝓜 .mem) (𝓡 .run)) 𝓜 𝓡 code.env #desk·query·query query-def.routine code.calls-desk·query·query (query-thm.met 𝓤 H 𝓜 𝓖 𝓡) in
+    let told-met = cited 𝓤 H (Told′ 𝓤 H (𝓖 .A) (𝓜 .mem) (𝓡 .run)) 𝓜 𝓡 code.env #export·told told-def.routine code.calls-export·told (told-thm.met 𝓤 H 𝓜 𝓖 𝓡) in
+    closes 𝓤 H 𝓜 𝓖 𝓡 code.env #export·ullagreth-query code.function (code.unfolded 𝓤 H 𝓜 𝓡) f.ended stayed (
+      goes-none-slice 𝓤 H (𝓖 .A) W 4 (0 ∷ []) tt (plain (λ _. i32)) yes,
+      (
+        goes-none 𝓤 H (𝓖 .A) W 4 (λ _. i32) yes (λ κs x f. refl),
+        (goes-none 𝓤 H (𝓖 .A) W 4 (λ _. i32) yes (λ κs x f. refl), (goes-none 𝓤 H (𝓖 .A) W 4 (λ _. i32) yes (λ κs x f. refl), (goes-gave-slice 𝓤 H (𝓖 .A) W 4 1 tt (plain (λ _. R)), (goes-gave-slice 𝓤 H (𝓖 .A) W 4 2 tt (plain (λ _. u32)), (goes-gave-slice 𝓤 H (𝓖 .A) W 4 3 tt (plain (λ _. u64)), tt))))),
+      ),
+    ) (f.clauses 𝓤 H (𝓖 .A) (𝓜 .mem) (𝓡 .run))
+    (λ κs. (slice-vals, (sint-vals w32, (sint-vals w32, (sint-vals w32, (slice-vals, (slice-vals, (slice-vals, tt))))))))
+    (λ κs. (shr-slice-tells (named 0) (κs .0) i32, (sint-tells w32, (sint-tells w32, (sint-tells w32, (mut-slice-tells (named 1) (κs .1 .0) R, (mut-slice-tells (named 2) (κs .1 .1 .0) u32, (mut-slice-tells (named 3) (κs .1 .1 .1 .0) u64, tt))))))))
+    (λ fm x g are. via 𝓤 _ (fst∗ 𝓤 _ (emp 𝓤)) (walk 𝓤 H (𝓖 .A) W (𝓜 .mem) (𝓡 .run) (x .0) (x .1) (x .3 .0) (x .3 .1 .0) (x .3 .1 .1 .0) (x .3 .1 .1 .1 .0) (x .3 .1 .1 .1 .1 .0) (x .3 .1 .1 .1 .1 .1 .0) (x .3 .1 .1 .1 .1 .1 .1 .0) (are .0 .0 .1) (are .1 .0) (are .1 .1 .0) (are .1 .1 .1 .0) (are .1 .1 .1 .1 .0 .0 .1) (are .1 .1 .1 .1 .1 .0 .0 .1) (are .1 .1 .1 .1 .1 .1 .0 .0 .1) _ _ fm query-met told-met))
