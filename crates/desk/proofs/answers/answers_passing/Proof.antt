@@ -17,7 +17,7 @@ use prog.Memory.{Memory}
 use prog.Routine.{Routine}
 use prog.Wp.{Heap, Calls, Loops, WpFn}
 use ghost.Atoms.{Atoms, sem}
-use contract.Monad.{Fun, fact}
+use contract.Monad.{Fun, factI}
 use contract.Lifetimes.{Lfts, Shares}
 use contract.Running.{givenOf}
 use types.Kit.{Given as Rules, ‵, raw, given, _⊛_, ⋆, some, later, _$_, _∵_, !, qed, by, move, keep, drop, use0, use1, use2, use3, group, split, split3, join, pick, learn, fsplit, fjoin, feqL, suffices, frame, await, done}
@@ -50,7 +50,8 @@ use Rattle.rules.specs.Rules.{wellFormed}
 use Rattle.record.specs.declared.Candidate.{Candidate}
 use Rattle.record.proofs.Candidate as C′
 use Rattle.record.proofs.Candidate.Laws as C″
-use Rattle.walks.proofs.Ends.{closes}
+use Rattle.walks.proofs.Ends.{answers, closes}
+use Rattle.desk.proofs.Giving.{apart, stack, beside, hands, last-two, frees-at}
 use Rattle.walks.proofs.LentRow.{Whole, laid, taken, counted, lends, ends}
 use Rattle.walks.proofs.WalkSteps.{asks-nothing}
 use Rattle.refusals.specs.declared.answered.Answered.{Answered}
@@ -157,50 +158,41 @@ module _ {M : Type 1} (𝓤 : URA M) (H : Heap 𝓤) (A : Atoms 𝓤) (W : Rules
     goes-passing : ent 𝓤 (⋆ 𝓤 H A (‵ (flft (κs .0) (qs .0)) ∷ ‵ (flft (p .0 ∷ []) fullShare) ∷ ‵ (flft (κs .1 .0) (qs .1 .0)) ∷ ‵ Tabled ∷ ‵ Lent ∷ ‵ Numbered ∷ [])) (Passing 𝓤 H A mem run .pre to-passing)
     goes-passing =
         qed W (‵ (flft (κs .0) (qs .0)) ∷ ‵ (flft (p .0 ∷ []) fullShare) ∷ ‵ (flft (κs .1 .0) (qs .1 .0)) ∷ ‵ Tabled ∷ ‵ Lent ∷ ‵ Numbered ∷ []) ∵
-        says ! pre $ nothing ! $ move ! (3 ∷ 0 ∷ []) $ join ! $ move ! (2 ∷ 0 ∷ []) $ join ! $ move ! (1 ∷ 0 ∷ []) $ join ! $ frame ! $
-        nothing ! $ move ! (3 ∷ 0 ∷ []) $ fjoin ! $ move ! (2 ∷ 0 ∷ []) $ fjoin ! $ owned ! i32 (Is i32) (sint-makes 𝓤 H A W w32) zk _ gk $ fjoin ! $ owned ! i32 (Is i32) (sint-makes 𝓤 H A W w32) zy _ gy $ fjoin ! $ owned ! i32 (Is i32) (sint-makes 𝓤 H A W w32) zx _ gx $ fjoin ! $ move ! (1 ∷ 0 ∷ []) $ fjoin ! $ done !
+        says ! pre $ stack ! 3 $ move ! (2 ∷ 3 ∷ []) $ stack ! 2 $ move ! (2 ∷ 0 ∷ []) $ beside ! zx zy zk gx gy gk $ move ! (1 ∷ 0 ∷ []) $ done !
 
   exits : (new : List ℕ) (r : Answered) (u : Val) → length new ≡ length (now ar) → AnswersAlone ws q zk (now ar) new r
       → ent 𝓤 (⋆ 𝓤 H A (‵ (flft (κs .0) (qs .0)) ∷ ‵ (flft (κs .1 .0) (qs .1 .0)) ∷ ‵ Tabled ∷ ‵ (finally u32 (ar .name) new) ∷ ‵ (T.the-row .own r (u ∷ [])) ∷ [])) (Post u)
   exits new r u l e =
       qed W (‵ (flft (κs .0) (qs .0)) ∷ ‵ (flft (κs .1 .0) (qs .1 .0)) ∷ ‵ Tabled ∷ ‵ (finally u32 (ar .name) new) ∷ ‵ (T.the-row .own r (u ∷ [])) ∷ []) ∵
       suffices ! _ (ends-at 𝓤 H A f.ended stayed (f.clauses 𝓤 H A mem run) W ((κs, qs, tt, a, at), tt) u r (tt, (tt, (tt, (tt, (new, tt))))) (tt, (tt, (tt, (tt, (l, tt)))))) $ says ! e $
-      nothing ! $ move ! (2 ∷ 0 ∷ []) $ join ! $ move ! (1 ∷ 0 ∷ []) $ join ! $ frame ! $
-      nothing ! $ move ! (2 ∷ 0 ∷ []) $ fjoin ! $ owned ! i32 (Is i32) (sint-makes 𝓤 H A W w32) zk _ gk $ fjoin ! $ owned ! i32 (Is i32) (sint-makes 𝓤 H A W w32) zy _ gy $ fjoin ! $ owned ! i32 (Is i32) (sint-makes 𝓤 H A W w32) zx _ gx $ fjoin ! $ move ! (1 ∷ 0 ∷ []) $ fjoin ! $ done !
+      stack ! 2 $ frame ! $ move ! (1 ∷ []) $ stack ! 1 $ move ! (1 ∷ 0 ∷ []) $ beside ! zx zy zk gx gy gk $ done !
 
   module _ (C : Calls 𝓤 H) (Λ : Loops 𝓤 H) (fm : FmC 𝓤 H (W .laws) C) (known-blank : Triple 𝓤 (C #desk·answers·blank-list) (Blank 𝓤 H A mem run)) (known-passing : Triple 𝓤 (C #desk·query·query-passing) (Passing 𝓤 H A mem run)) where
     walk : ent 𝓤 (onEntry 𝓤 H A f.signature κs qs a at) (WpFn 𝓤 H C Λ code.function (s₁ ∷ vint w32 (ofZ w32 zx) ∷ vint w32 (ofZ w32 zy) ∷ vint w32 (ofZ w32 zk) ∷ s₂ ∷ []) Post)
     walk =
-        qed W ((‵ (flft (κs .0) (qs .0)) ⊛ ‵ (flft (κs .1 .0) (qs .1 .0)) ⊛ ‵ ftrue) ∷ ‵ (owns (ShrSlice (named 0) (κs .0) i32 ∷ i32 ∷ i32 ∷ i32 ∷ MutSlice (named 1) (κs .1 .0) u32 ∷ []) a at) ∷ []) ∵
+        qed W (raw (onEntry 𝓤 H A f.signature κs qs a at) ∷ []) ∵ apart ! f.signature κs qs a at $ keep ! (0 ∷ 1 ∷ 2 ∷ 6 ∷ []) $
         enter ! C Λ code.function (s₁ ∷ vint w32 (ofZ w32 zx) ∷ vint w32 (ofZ w32 zy) ∷ vint w32 (ofZ w32 zk) ∷ s₂ ∷ []) _ $
         alloc1 ! (λ l₀. alloc1 ! (λ l₁. alloc1 ! (λ l₂. alloc1 ! (λ l₃. alloc1 ! (λ l₄. alloc1 ! (λ l₅. alloc1 ! (λ l₆. alloc1 ! (λ l₇. alloc1 ! (λ l₈. alloc1 ! (λ l₉. alloc1 ! (λ l₁₀. alloc1 ! (λ l₁₁. alloc0 ! $ params1 ! $
         pass1 ! (init ! 20 refl (tt, (tt, (record { fits = rt .0 }, tt)))) $ pass1 ! (init ! 18 refl (sint-lawful 𝓤 H A W w32 .typed zx _ gx .0)) $ pass1 ! (init ! 16 refl (sint-lawful 𝓤 H A W w32 .typed zy _ gy .0)) $ pass1 ! (init ! 14 refl (sint-lawful 𝓤 H A W w32 .typed zk _ gk .0)) $
         pass1 ! (init ! 12 refl (tt, (tt, (record { fits = ra .0 }, tt)))) $ pass0 ! $
-        move ! (24 ∷ []) $ split ! $ move ! (1 ∷ []) $ split ! $ move ! (27 ∷ []) $ fsplit ! $ move ! (1 ∷ []) $ fsplit ! $ move ! (1 ∷ []) $ fsplit ! $ move ! (1 ∷ []) $ fsplit ! $ move ! (1 ∷ []) $ fsplit ! $ keep ! (9 ∷ 10 ∷ 11 ∷ 12 ∷ 13 ∷ 14 ∷ 15 ∷ 16 ∷ 17 ∷ 18 ∷ 19 ∷ 20 ∷ 21 ∷ 22 ∷ 23 ∷ 24 ∷ 25 ∷ 26 ∷ 27 ∷ 28 ∷ 29 ∷ 30 ∷ 31 ∷ 32 ∷ 8 ∷ 6 ∷ 5 ∷ 0 ∷ []) $
         -- the list is made
-        use0 W (raw (Blank 𝓤 H A mem run .pre for-none)) (asks-nothing 𝓤) $ calls-at ! fm (Blank 𝓤 H A mem run) known-blank for-none (no-more !) (λ w.
-        use1 W (later (some (λ (z : List Candidate). (‵ ftrue ⊛ ‵ (Array R 500 .own z (w ∷ []))) ⊛ raw (ensured 𝓤 H A blank-list.ended (blank-list.clauses 𝓤 H A mem run) tt tt tt z)))) (id⊢ 𝓤 _) $ await ! tt $ pick ! (λ cs. split ! $ split ! $ move ! (1 ∷ []) $ peeks ! (Array R 500) (Is (Array R 500)) (shows 𝓤 H A (Array R 500)) cs (w ∷ []) (λ is.
-        land ! (from ! (stop !)) (init ! 11 refl (array-lawful 𝓤 H A W R (LL.lawful C′.the-type C″.the-laws 𝓤 H A W) 500 .typed cs _ is .0)) $
-        assigns ! (of-opd ! (load ! (from ! (stop !)) (look ! 11 refl))) (from ! (stop !)) (init ! 13 refl (array-lawful 𝓤 H A W R (LL.lawful C′.the-type C″.the-laws 𝓤 H A W) 500 .typed cs _ is .0)) $
-        move ! (13 ∷ 0 ∷ []) $ use2 W (‵ (Whole R 500 l₆ cs)) (laid R 500 l₆ 𝓤 H A W tt cs w) $ use1 W (given (length cs ≡ 500) (‵ (Whole R 500 l₆ cs))) (counted R 500 l₆ 𝓤 H A W cs) $ learn ! (λ n.
-        assigns ! (addr ! (from ! (stop !))) (from ! (stop !)) (init ! 9 refl (tt, tt)) $
-        assigns ! (agg ! (and-then ! (load ! (from ! (stop !)) (look ! 9 refl)) (and-then ! (lit ! tt) (no-more !)))) (from ! (stop !)) (init ! 7 refl (tt, (tt, (record { fits = lit< tt }, tt)))) $
-        assigns ! (addr ! (from ! (fld ! refl (hop ! (look-in ! 14 (sub ! 0 refl (whole !))) (stop !))))) (from ! (stop !)) (init ! 5 refl (tt, tt)) $
-        assigns ! (agg ! (and-then ! (load ! (from ! (stop !)) (look ! 5 refl)) (and-then ! (load ! (from ! (fld ! refl (stop !))) (look-in ! 14 (sub ! 1 refl (whole !)))) (no-more !)))) (from ! (stop !)) (init ! 3 refl (tt, (tt, (record { fits = ra .0 }, tt)))) $
+        use0 W (raw (Blank 𝓤 H A mem run .pre for-none)) (asks-nothing 𝓤) $ answers ! fm blank-list.ended (blank-list.clauses 𝓤 H A mem run) known-blank for-none (λ cs. Unit {0}) (λ cs us. factI 𝓤 (Unit {0}) _ tt) (no-more !) (λ w cs _ is.
+        land ! (from ! (stop !)) (init ! 10 refl (array-lawful 𝓤 H A W R (LL.lawful C′.the-type C″.the-laws 𝓤 H A W) 500 .typed cs _ is .0)) $
+        assigns ! (of-opd ! (load ! (from ! (stop !)) (look ! 10 refl))) (from ! (stop !)) (init ! 12 refl (array-lawful 𝓤 H A W R (LL.lawful C′.the-type C″.the-laws 𝓤 H A W) 500 .typed cs _ is .0)) $
+        move ! (12 ∷ 0 ∷ []) $ use2 W (‵ (Whole R 500 l₆ cs)) (laid R 500 l₆ 𝓤 H A W tt cs w) $ use1 W (given (length cs ≡ 500) (‵ (Whole R 500 l₆ cs))) (counted R 500 l₆ 𝓤 H A W cs) $ learn ! (λ n.
+        assigns ! (addr ! (from ! (stop !))) (from ! (stop !)) (init ! 8 refl (tt, tt)) $
+        assigns ! (agg ! (and-then ! (load ! (from ! (stop !)) (look ! 8 refl)) (and-then ! (lit ! tt) (no-more !)))) (from ! (stop !)) (init ! 6 refl (tt, (tt, (record { fits = lit< tt }, tt)))) $
+        assigns ! (addr ! (from ! (fld ! refl (hop ! (look-in ! 13 (sub ! 0 refl (whole !))) (stop !))))) (from ! (stop !)) (init ! 4 refl (tt, tt)) $
+        assigns ! (agg ! (and-then ! (load ! (from ! (stop !)) (look ! 4 refl)) (and-then ! (load ! (from ! (fld ! refl (stop !))) (look-in ! 13 (sub ! 1 refl (whole !)))) (no-more !)))) (from ! (stop !)) (init ! 2 refl (tt, (tt, (record { fits = ra .0 }, tt)))) $
         -- it is lent, and the answer list is passed on for good
         use1 W (later (some (λ (p : ℕ × GName). ‵ (flft (p .0 ∷ []) fullShare) ⊛ ‵ (Lent l₆ p cs) ⊛ ‵ (flent (p .0 ∷ []) (Held R 500 l₆ 0 (p .1)))))) (lends R 500 l₆ 𝓤 H A W (named 1) (lit< tt, lit< tt) cs) $ await ! tt $ pick ! (λ p. split3 ! $
-        move ! (30 ∷ []) $ use1 W (‵ Tabled ⊛ ‵ Tabled) tabled-twice $ split ! $ move ! (30 ∷ 2 ∷ 31 ∷ 0 ∷ 3 ∷ 32 ∷ []) $ group ! 6 $ use1 W (raw (Passing 𝓤 H A mem run .pre (to-passing l₆ p cs))) (goes-passing l₆ p cs) $
-        calls-at ! fm (Passing 𝓤 H A mem run) known-passing (to-passing l₆ p cs) (and-then ! (load ! (from ! (stop !)) (look ! 24 refl)) (and-then ! (load ! (from ! (stop !)) (look ! 22 refl)) (and-then ! (load ! (from ! (stop !)) (look ! 20 refl)) (and-then ! (load ! (from ! (stop !)) (look ! 18 refl)) (and-then ! (load ! (from ! (stop !)) (look ! 9 refl)) (and-then ! (load ! (from ! (stop !)) (look ! 5 refl)) (no-more !))))))) (λ u.
-        use1 W (later (some (λ (r : Answered). ((‵ (flft (κs .0) (qs .0)) ⊛ ‵ (flft (p .0 ∷ []) fullShare) ⊛ ‵ (flft (κs .1 .0) (qs .1 .0)) ⊛ ‵ ftrue) ⊛ ‵ (T.the-row .own r (u ∷ []))) ⊛ raw (ensured 𝓤 H A query-passing.ended (query-passing.clauses 𝓤 H A mem run) (passing-κs l₆ p cs) (passing-args l₆ p cs) tt r)))) (id⊢ 𝓤 _) $ await ! tt $ pick ! (λ r. split ! $ move ! (1 ∷ []) $
-        use1 W (some (λ (vs : Lastly). ‵ (lasts query-passing.ended (passing-κs l₆ p cs) (passing-args l₆ p cs) vs) ⊛ raw (fact 𝓤 (Answers ws q zk cs (vs .1 .1 .1 .1 .0) (now ar) (vs .1 .1 .1 .1 .1 .0) r)))) (id⊢ 𝓤 _) $ pick ! (λ vs. split ! $ move ! (1 ∷ []) $ heard ! (Answers ws q zk cs (vs .1 .1 .1 .1 .0) (now ar) (vs .1 .1 .1 .1 .1 .0) r) (λ answered.
-        fsplit ! $ drop ! $ fsplit ! $ drop ! $ fsplit ! $ drop ! $ fsplit ! $ drop ! $ fsplit ! $ fsplit ! $ move ! (1 ∷ []) $ feqL ! (λ l. move ! (1 ∷ []) $ fsplit ! $ fsplit ! $ move ! (1 ∷ []) $ feqL ! (λ l′.
-        move ! (3 ∷ []) $ split ! $ split ! $ move ! (1 ∷ []) $ split ! $ move ! (1 ∷ []) $ split ! $ move ! (4 ∷ []) $ peeks ! T.the-row (Is T.the-row) (shows 𝓤 H A T.the-row) r (u ∷ []) (λ is′.
-        land ! (from ! (stop !)) (init ! 33 refl (LL.lawful T.the-type T′.the-laws 𝓤 H A W .typed r _ is′ .0)) $
+        move ! (29 ∷ []) $ use1 W (‵ Tabled ⊛ ‵ Tabled) tabled-twice $ split ! $ move ! (29 ∷ 2 ∷ 30 ∷ 0 ∷ 3 ∷ 31 ∷ []) $ group ! 6 $ use1 W (raw (Passing 𝓤 H A mem run .pre (to-passing l₆ p cs))) (goes-passing l₆ p cs) $
+        hands ! fm query-passing.ended (query-passing.clauses 𝓤 H A mem run) known-passing (to-passing l₆ p cs) (λ r vs. Answers ws q zk cs (vs .1 .1 .1 .1 .0) (now ar) (vs .1 .1 .1 .1 .1 .0) r) (λ r vs. id⊢ 𝓤 _)
+        (and-then ! (load ! (from ! (stop !)) (look ! 23 refl)) (and-then ! (load ! (from ! (stop !)) (look ! 21 refl)) (and-then ! (load ! (from ! (stop !)) (look ! 19 refl)) (and-then ! (load ! (from ! (stop !)) (look ! 17 refl)) (and-then ! (load ! (from ! (stop !)) (look ! 8 refl)) (and-then ! (load ! (from ! (stop !)) (look ! 4 refl)) (no-more !))))))) (λ u r vs answered is′. last-two ! (λ l l′.
+        land ! (from ! (stop !)) (init ! 30 refl (LL.lawful T.the-type T′.the-laws 𝓤 H A W .typed r _ is′ .0)) $
         -- the list is back, and is let go
-        move ! (3 ∷ 9 ∷ 7 ∷ []) $ use3 W (later (‵ (Whole R 500 l₆ (vs .1 .1 .1 .1 .0)))) (ends R 500 l₆ 𝓤 H A W p (vs .1 .1 .1 .1 .0)) $ await ! tt $ use1 W (some (λ (v : Val). ‵ (fat fullShare (tyArray (lone (R .mir)) 500) l₆ 0 v) ⊛ ‵ (Array R 500 .own (vs .1 .1 .1 .1 .0) (v ∷ [])))) (taken R 500 l₆ 𝓤 H A W (vs .1 .1 .1 .1 .0)) $ pick ! (λ v. split ! $
-        returns ! (look ! 32 refl) $ forget ! 11 refl $ forget ! 13 refl $ forget ! 15 refl $ forget ! 17 refl $ forget ! 19 refl $ forget ! 0 refl $ forget ! 22 refl $ forget ! 24 refl $ forget ! 26 refl $ forget ! 28 refl $ forget ! 30 refl $ forget ! 32 refl $
-        move ! (32 ∷ 33 ∷ []) $ free1 ! $ move ! (30 ∷ 31 ∷ []) $ free1 ! $ move ! (28 ∷ 29 ∷ []) $ free1 ! $ move ! (26 ∷ 27 ∷ []) $ free1 ! $ move ! (24 ∷ 25 ∷ []) $ free1 ! $ move ! (22 ∷ 23 ∷ []) $ free1 ! $ move ! (0 ∷ 21 ∷ []) $ free1 ! $ move ! (18 ∷ 19 ∷ []) $ free1 ! $ move ! (16 ∷ 17 ∷ []) $ free1 ! $ move ! (14 ∷ 15 ∷ []) $ free1 ! $ move ! (12 ∷ 13 ∷ []) $ free1 ! $ move ! (10 ∷ 11 ∷ []) $ free1 ! $ free0 ! $
-        keep ! (4 ∷ 2 ∷ 7 ∷ 5 ∷ 1 ∷ []) $ by ! (exits (vs .1 .1 .1 .1 .1 .0) r u l′ (answers-alone n answered)))))))))))))))))))))))))))
+        move ! (4 ∷ 7 ∷ 0 ∷ []) $ use3 W (later (‵ (Whole R 500 l₆ (vs .1 .1 .1 .1 .0)))) (ends R 500 l₆ 𝓤 H A W p (vs .1 .1 .1 .1 .0)) $ await ! tt $ use1 W (some (λ (v : Val). ‵ (fat fullShare (tyArray (lone (R .mir)) 500) l₆ 0 v) ⊛ ‵ (Array R 500 .own (vs .1 .1 .1 .1 .0) (v ∷ [])))) (taken R 500 l₆ 𝓤 H A W (vs .1 .1 .1 .1 .0)) $ pick ! (λ v. split ! $
+        returns ! (look ! 29 refl) $ move ! (8 ∷ 9 ∷ 10 ∷ 11 ∷ 12 ∷ 13 ∷ 14 ∷ 15 ∷ 16 ∷ 17 ∷ 0 ∷ 18 ∷ 19 ∷ 20 ∷ 21 ∷ 22 ∷ 23 ∷ 24 ∷ 25 ∷ 26 ∷ 27 ∷ 28 ∷ 29 ∷ 30 ∷ []) $ frees-at ! 0 refl $ keep ! (3 ∷ 4 ∷ 5 ∷ 1 ∷ 2 ∷ []) $ by ! (exits (vs .1 .1 .1 .1 .1 .0) r u l′ (answers-alone n answered))))))))))))))))))))
 
 pub answers-passing-spec : {M : Type 1} → stated.statement M
 unfolding code.routine
