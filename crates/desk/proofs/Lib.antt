@@ -8,4 +8,3 @@ pub mod CallQuery
 pub mod CallList
 pub mod CallAlone
 pub mod Once
-pub mod Giving
