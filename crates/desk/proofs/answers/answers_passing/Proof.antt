@@ -34,7 +34,6 @@ use denote.Ref.{RefT, now}
 use denote.Slice.{sliceVal, slice-vals, mut-slice-tells, shr-slice-tells, MutSlice, ShrSlice, Room, finally, shr-slice-copy}
 use denote.Lend.{Held}
 use denote.Signature.{plain}
-use denote.Steps.{nothing}
 use denote.Struct.Laws as LL
 use denote.Triple.Entry.{onEntry}
 use denote.Triple.Spec.{tripleOf}
@@ -50,7 +49,7 @@ use Rattle.record.proofs.Candidate as C′
 use Rattle.record.proofs.Candidate.Laws as C″
 use Rattle.walks.proofs.Ends.{answers, closes}
 use Rattle.walks.proofs.Frees.{frees-at}
-use Rattle.walks.proofs.Handed.{apart, stack, beside, hands, last-two}
+use Rattle.walks.proofs.Handed.{apart, stack, beside, arg, hands, last-two}
 use Rattle.walks.proofs.LentRow.{Whole, laid, taken, counted, lends, ends}
 use Rattle.walks.proofs.WalkSteps.{asks-nothing}
 use Rattle.refusals.specs.declared.answered.Answered.{Answered}
@@ -180,14 +179,14 @@ module _ {M : Type 1} (𝓤 : URA M) (H : Heap 𝓤) (A : Atoms 𝓤) (W : Rules
         assigns ! (of-opd ! (load ! (from ! (stop !)) (look ! 10 refl))) (from ! (stop !)) (init ! 12 refl (array-lawful 𝓤 H A W R (LL.lawful C′.the-type C″.the-laws 𝓤 H A W) 500 .typed cs _ is .0)) $
         move ! (12 ∷ 0 ∷ []) $ use2 W (‵ (Whole R 500 l₆ cs)) (laid R 500 l₆ 𝓤 H A W tt cs w) $ use1 W (given (length cs ≡ 500) (‵ (Whole R 500 l₆ cs))) (counted R 500 l₆ 𝓤 H A W cs) $ learn ! (λ n.
         assigns ! (addr ! (from ! (stop !))) (from ! (stop !)) (init ! 8 refl (tt, tt)) $
-        assigns ! (agg ! (and-then ! (load ! (from ! (stop !)) (look ! 8 refl)) (and-then ! (lit ! tt) (no-more !)))) (from ! (stop !)) (init ! 6 refl (tt, (tt, (record { fits = lit< tt }, tt)))) $
+        assigns ! (agg ! (arg ! 8 refl (and-then ! (lit ! tt) (no-more !)))) (from ! (stop !)) (init ! 6 refl (tt, (tt, (record { fits = lit< tt }, tt)))) $
         assigns ! (addr ! (from ! (fld ! refl (hop ! (look-in ! 13 (sub ! 0 refl (whole !))) (stop !))))) (from ! (stop !)) (init ! 4 refl (tt, tt)) $
-        assigns ! (agg ! (and-then ! (load ! (from ! (stop !)) (look ! 4 refl)) (and-then ! (load ! (from ! (fld ! refl (stop !))) (look-in ! 13 (sub ! 1 refl (whole !)))) (no-more !)))) (from ! (stop !)) (init ! 2 refl (tt, (tt, (record { fits = ra .0 }, tt)))) $
+        assigns ! (agg ! (arg ! 4 refl (and-then ! (load ! (from ! (fld ! refl (stop !))) (look-in ! 13 (sub ! 1 refl (whole !)))) (no-more !)))) (from ! (stop !)) (init ! 2 refl (tt, (tt, (record { fits = ra .0 }, tt)))) $
         -- it is lent, and the answer list is passed on for good
         use1 W (later (some (λ (p : ℕ × GName). ‵ (flft (p .0 ∷ []) fullShare) ⊛ ‵ (Lent l₆ p cs) ⊛ ‵ (flent (p .0 ∷ []) (Held R 500 l₆ 0 (p .1)))))) (lends R 500 l₆ 𝓤 H A W (named 1) (lit< tt, lit< tt) cs) $ await ! tt $ pick ! (λ p. split3 ! $
         move ! (29 ∷ []) $ use1 W (‵ Tabled ⊛ ‵ Tabled) tabled-twice $ split ! $ move ! (29 ∷ 2 ∷ 30 ∷ 0 ∷ 3 ∷ 31 ∷ []) $ group ! 6 $ use1 W (raw (Passing 𝓤 H A mem run .pre (to-passing l₆ p cs))) (goes-passing l₆ p cs) $
         hands ! fm query-passing.ended (query-passing.clauses 𝓤 H A mem run) known-passing (to-passing l₆ p cs) (λ r vs. Answers ws q zk cs (vs .1 .1 .1 .1 .0) (now ar) (vs .1 .1 .1 .1 .1 .0) r) (λ r vs. id⊢ 𝓤 _)
-        (and-then ! (load ! (from ! (stop !)) (look ! 23 refl)) (and-then ! (load ! (from ! (stop !)) (look ! 21 refl)) (and-then ! (load ! (from ! (stop !)) (look ! 19 refl)) (and-then ! (load ! (from ! (stop !)) (look ! 17 refl)) (and-then ! (load ! (from ! (stop !)) (look ! 8 refl)) (and-then ! (load ! (from ! (stop !)) (look ! 4 refl)) (no-more !))))))) (λ u r vs answered is′. last-two ! (λ l l′.
+        (arg ! 23 refl (arg ! 21 refl (arg ! 19 refl (arg ! 17 refl (arg ! 8 refl (arg ! 4 refl (no-more !))))))) (λ u r vs answered is′. last-two ! (λ l l′.
         land ! (from ! (stop !)) (init ! 30 refl (LL.lawful T.the-type T′.the-laws 𝓤 H A W .typed r _ is′ .0)) $
         -- the list is back, and is let go
         move ! (4 ∷ 7 ∷ 0 ∷ []) $ use3 W (later (‵ (Whole R 500 l₆ (vs .1 .1 .1 .1 .0)))) (ends R 500 l₆ 𝓤 H A W p (vs .1 .1 .1 .1 .0)) $ await ! tt $ use1 W (some (λ (v : Val). ‵ (fat fullShare (tyArray (lone (R .mir)) 500) l₆ 0 v) ⊛ ‵ (Array R 500 .own (vs .1 .1 .1 .1 .0) (v ∷ [])))) (taken R 500 l₆ 𝓤 H A W (vs .1 .1 .1 .1 .0)) $ pick ! (λ v. split ! $

@@ -19,7 +19,7 @@ use ghost.Atoms.{Atoms, sem}
 use contract.Monad.{Fun}
 use contract.Lifetimes.{Lfts, Shares}
 use contract.Running.{givenOf}
-use types.Kit.{Given as Rules, ‵, raw, atRet, _⊛_, ⋆, _$_, _∵_, !, qed, by, move, keep, drop, use0, use1, use2, group, split, join, rewrite, fjoin, suffices, frame, done}
+use types.Kit.{Given as Rules, ‵, raw, atRet, _⊛_, ⋆, _$_, _∵_, !, qed, by, move, keep, drop, use0, use1, use2, group, split, rewrite, suffices, frame, done}
 use types.Run.{look, init, stop, hop, fld, from, load, addr, and-then, no-more, assigns, land, first, skips, branches, returns-within, returns, enter, alloc1, alloc0, params1, pass1, pass0, exec}
 use types.Part.{agg, whole, sub, look-in}
 use sound.WpLaws.{FmC}
@@ -31,7 +31,7 @@ use denote.Builtin.{u32, i32}
 use denote.Ref.{RefT, now}
 use denote.Slice.{sliceVal, slice-vals, mut-slice-tells, shr-slice-tells, MutSlice, ShrSlice, Room, finally, shr-slice-copy}
 use denote.Signature.{plain}
-use denote.Steps.{only, owned, nothing}
+use denote.Steps.{only, owned}
 use denote.Struct.Laws as LL
 use denote.Enum.Laws as EL
 use denote.Triple.Entry.{onEntry}
@@ -48,7 +48,7 @@ use Rattle.record.specs.declared.Candidate.{Candidate}
 use Rattle.record.proofs.Candidate as C′
 use Rattle.walks.proofs.Ends.{answers, closes}
 use Rattle.walks.proofs.Frees.{frees-at}
-use Rattle.walks.proofs.Handed.{apart, stack, beside, hands, last-two}
+use Rattle.walks.proofs.Handed.{apart, stack, asked, beside, arg, hands, last-two}
 use Rattle.walks.proofs.WalkSteps.{env, lets-go}
 use Rattle.refusals.specs.declared.answered.Answered.{Answered}
 use Rattle.refusals.specs.Refusals.{site}
@@ -157,11 +157,11 @@ module _ {M : Type 1} (𝓤 : URA M) (H : Heap 𝓤) (A : Atoms 𝓤) (W : Rules
 
   goes-given : (g : Given) (w : Val) → Is G.the-row g (w ∷ []) → ent 𝓤 (emp 𝓤) (sep 𝓤 (sep 𝓤 (emp 𝓤) (sep 𝓤 (sem 𝓤 H A (G.the-row .own g (w ∷ []))) (emp 𝓤))) (emp 𝓤))
   goes-given g w is =
-      qed W [] ∵ nothing ! $ nothing ! $ owned ! G.the-row (Is G.the-row) (EL.makes G.the-type G′.the-plain 𝓤 H A) g (w ∷ []) is $ fjoin ! $ nothing ! $ join ! $ done !
+      qed W [] ∵ owned ! G.the-row (Is G.the-row) (EL.makes G.the-type G′.the-plain 𝓤 H A) g (w ∷ []) is $ asked ! 0 1 $ done !
 
   -- what the check of the words, and that of the table, is handed
   goes-words : ent 𝓤 (sep 𝓤 (A .lft (κs .0) (qs .0)) (sem 𝓤 H A Tabled)) (sep 𝓤 (sep 𝓤 (sep 𝓤 (A .lft (κs .0) (qs .0)) (emp 𝓤)) (sep 𝓤 (sem 𝓤 H A Tabled) (emp 𝓤))) (emp 𝓤))
-  goes-words = qed W (‵ (flft (κs .0) (qs .0)) ∷ ‵ Tabled ∷ []) ∵ stack ! 1 $ move ! (1 ∷ []) $ stack ! 1 $ move ! (1 ∷ 0 ∷ []) $ join ! $ stack ! 1 $ done !
+  goes-words = qed W (‵ (flft (κs .0) (qs .0)) ∷ ‵ Tabled ∷ []) ∵ asked ! 1 1 $ done !
 
   exits : (zs : List Candidate) (new : List ℕ) (r : Answered) (u : Val) → length zs ≡ length ys → length new ≡ length (now ar) → Answers ws q zk ys zs (now ar) new r
       → ent 𝓤 (⋆ 𝓤 H A (‵ (flft (κs .0) (qs .0)) ∷ ‵ (flft (κs .1 .0) (qs .1 .0)) ∷ ‵ (flft (κs .1 .1 .0) (qs .1 .1 .0)) ∷ ‵ Tabled ∷ ‵ (finally R (x .name) zs) ∷ ‵ (finally u32 (ar .name) new) ∷ ‵ (T.the-row .own r (u ∷ [])) ∷ [])) (Post u)
@@ -194,29 +194,29 @@ module _ {M : Type 1} (𝓤 : URA M) (H : Heap 𝓤) (A : Atoms 𝓤) (W : Rules
         pass1 ! (init ! 22 refl (tt, (tt, (record { fits = rt .0 }, tt)))) $ pass1 ! (init ! 20 refl (sint-lawful 𝓤 H A W w32 .typed zx _ gx .0)) $ pass1 ! (init ! 18 refl (sint-lawful 𝓤 H A W w32 .typed zy _ gy .0)) $ pass1 ! (init ! 16 refl (sint-lawful 𝓤 H A W w32 .typed zk _ gk .0)) $
         pass1 ! (init ! 14 refl (tt, (tt, (record { fits = room .0 }, tt)))) $ pass1 ! (init ! 12 refl (tt, (tt, (record { fits = ra .0 }, tt)))) $ pass0 ! $
         move ! (29 ∷ []) $ use1 W (‵ Tabled ⊛ ‵ Tabled) tabled-twice $ split ! $ move ! (28 ∷ 0 ∷ []) $ use2 W (raw (Check 𝓤 H A mem run .pre at-check)) goes-words $
-        hands ! fm check.ended (check.clauses 𝓤 H A mem run) known-check at-check (λ g us. g ≡ checkGives ws) (λ g us. id⊢ 𝓤 _) (and-then ! (load ! (from ! (stop !)) (look ! 24 refl)) (no-more !)) (λ w g us e is. drop ! $
+        hands ! fm check.ended (check.clauses 𝓤 H A mem run) known-check at-check (λ g us. g ≡ checkGives ws) (λ g us. id⊢ 𝓤 _) (arg ! 24 refl (no-more !)) (λ w g us e is. drop ! $
         land ! (from ! (stop !)) (init ! 13 refl (EL.lawful G.the-type G′.the-laws 𝓤 H A W tt .typed g _ is .0)) $
         -- whether it is a refusal
         use0 W (raw (IsRefused 𝓤 H A mem run .pre (of-given g w))) (goes-given g w is) $
-        answers ! fm is-refused.ended (is-refused.clauses 𝓤 H A mem run) known-is-refused (of-given g w) (λ z. z ≡ refuses g) (λ z us. id⊢ 𝓤 _) (and-then ! (load ! (from ! (stop !)) (look ! 14 refl)) (no-more !)) (λ w₁ z f is₁.
+        answers ! fm is-refused.ended (is-refused.clauses 𝓤 H A mem run) known-is-refused (of-given g w) (λ z. z ≡ refuses g) (λ z us. id⊢ 𝓤 _) (arg ! 14 refl (no-more !)) (λ w₁ z f is₁.
         land ! (from ! (stop !)) (init ! 13 refl (bool-lawful 𝓤 H A W .typed z _ is₁ .0)) $
         rewrite ! 13 (λ (v : Val). ‵ (fat fullShare tyBool l₈ 0 v)) (ap only is₁) refl $ drop ! $ drop ! $ drop ! $
         first ! $ branches ! (load ! (from ! (stop !)) (look ! 10 refl))
         (λ yes. use0 W (raw (Refused 𝓤 H A mem run .pre (of-given g w))) (goes-given g w is) $
-        answers ! fm refused.ended (refused.clauses 𝓤 H A mem run) known-refused (of-given g w) (λ r. r ≡ record { given = g; n = 0; m = 0; o = 0 }) (λ r us. id⊢ 𝓤 _) (and-then ! (load ! (from ! (stop !)) (look ! 13 refl)) (no-more !)) (λ u r h is₂.
+        answers ! fm refused.ended (refused.clauses 𝓤 H A mem run) known-refused (of-given g w) (λ r. r ≡ record { given = g; n = 0; m = 0; o = 0 }) (λ r us. id⊢ 𝓤 _) (arg ! 13 refl (no-more !)) (λ u r h is₂.
         land ! (from ! (stop !)) (init ! 28 refl (LL.lawful T.the-type T′.the-laws 𝓤 H A W .typed r _ is₂ .0)) $
         returns-within ! Post refl (look ! 28 refl) $ frees-at ! 4 refl $
         move ! (6 ∷ []) $ use1 W (‵ (finally R (x .name) ys)) (lets-go 𝓤 H A W R (named 1) (κs .1 .0) x (s ∷ [])) $ move ! (7 ∷ []) $ use1 W (‵ (finally u32 (ar .name) (now ar))) (lets-go 𝓤 H A W u32 (named 2) (κs .1 .1 .0) ar (s₂ ∷ [])) $
         keep ! (4 ∷ 6 ∷ 7 ∷ 5 ∷ 1 ∷ 0 ∷ 2 ∷ []) $ by ! (exits ys (now ar) r u refl refl (subst (Answers ws q zk ys ys (now ar) (now ar)) (sym h) (let d = refused-not-done g (sym f ∙ is-true z yes) in list-refused ws q zk ys (now ar) (query-first ws q zk (length ys) e d (answersTold ws q zk)) d)))))
         (λ no. skips ! $ exec ! C Λ (En l₀ l₁ l₂ l₃ l₄ l₅ l₆ l₇ l₈ l₉ l₁₀ l₁₁ l₁₂) mir′.t-4 (atRet (En l₀ l₁ l₂ l₃ l₄ l₅ l₆ l₇ l₈ l₉ l₁₀ l₁₁ l₁₂) Post) $
         assigns ! (addr ! (from ! (fld ! refl (hop ! (look-in ! 16 (sub ! 0 refl (whole !))) (stop !))))) (from ! (stop !)) (init ! 8 refl (tt, tt)) $
-        assigns ! (agg ! (and-then ! (load ! (from ! (stop !)) (look ! 8 refl)) (and-then ! (load ! (from ! (fld ! refl (stop !))) (look-in ! 16 (sub ! 1 refl (whole !)))) (no-more !)))) (from ! (stop !)) (init ! 6 refl (tt, (tt, (record { fits = room .0 }, tt)))) $
+        assigns ! (agg ! (arg ! 8 refl (and-then ! (load ! (from ! (fld ! refl (stop !))) (look-in ! 16 (sub ! 1 refl (whole !)))) (no-more !)))) (from ! (stop !)) (init ! 6 refl (tt, (tt, (record { fits = room .0 }, tt)))) $
         assigns ! (addr ! (from ! (fld ! refl (hop ! (look-in ! 14 (sub ! 0 refl (whole !))) (stop !))))) (from ! (stop !)) (init ! 4 refl (tt, tt)) $
-        assigns ! (agg ! (and-then ! (load ! (from ! (stop !)) (look ! 4 refl)) (and-then ! (load ! (from ! (fld ! refl (stop !))) (look-in ! 14 (sub ! 1 refl (whole !)))) (no-more !)))) (from ! (stop !)) (init ! 2 refl (tt, (tt, (record { fits = ra .0 }, tt)))) $
+        assigns ! (agg ! (arg ! 4 refl (and-then ! (load ! (from ! (fld ! refl (stop !))) (look-in ! 14 (sub ! 1 refl (whole !)))) (no-more !)))) (from ! (stop !)) (init ! 2 refl (tt, (tt, (record { fits = ra .0 }, tt)))) $
         -- both lists are passed on for good
         move ! (1 ∷ []) $ use1 W (‵ Tabled ⊛ ‵ Tabled) tabled-twice $ split ! $ move ! (2 ∷ 29 ∷ 30 ∷ 0 ∷ 31 ∷ 32 ∷ []) $ group ! 6 $ use1 W (raw (Passing 𝓤 H A mem run .pre to-passing)) (goes-passing (passes ws e (not-refused-done g (sym f ∙ is-false z no)))) $
         hands ! fm query-passing.ended (query-passing.clauses 𝓤 H A mem run) known-passing to-passing (λ r vs. Answers ws q zk ys (vs .1 .1 .1 .1 .0) (now ar) (vs .1 .1 .1 .1 .1 .0) r) (λ r vs. id⊢ 𝓤 _)
-        (and-then ! (load ! (from ! (stop !)) (look ! 24 refl)) (and-then ! (load ! (from ! (stop !)) (look ! 22 refl)) (and-then ! (load ! (from ! (stop !)) (look ! 20 refl)) (and-then ! (load ! (from ! (stop !)) (look ! 18 refl)) (and-then ! (load ! (from ! (stop !)) (look ! 6 refl)) (and-then ! (load ! (from ! (stop !)) (look ! 2 refl)) (no-more !))))))) (λ u r vs answered is₂. last-two ! (λ l₁ l₂.
+        (arg ! 24 refl (arg ! 22 refl (arg ! 20 refl (arg ! 18 refl (arg ! 6 refl (arg ! 2 refl (no-more !))))))) (λ u r vs answered is₂. last-two ! (λ l₁ l₂.
         land ! (from ! (stop !)) (init ! 31 refl (LL.lawful T.the-type T′.the-laws 𝓤 H A W .typed r _ is₂ .0)) $
         returns ! (look ! 31 refl) $ frees-at ! 7 refl $ keep ! (3 ∷ 4 ∷ 5 ∷ 6 ∷ 0 ∷ 1 ∷ 2 ∷ []) $ by ! (exits (vs .1 .1 .1 .1 .0) (vs .1 .1 .1 .1 .1 .0) r u l₁ l₂ answered)))))))))))))))))))
 

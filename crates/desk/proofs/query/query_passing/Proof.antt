@@ -31,7 +31,7 @@ use denote.Builtin.{usize, u32, i32}
 use denote.Ref.{RefT, now}
 use denote.Slice.{sliceVal, slice-vals, mut-slice-tells, shr-slice-tells, MutSlice, ShrSlice, Room, finally, shr-slice-copy}
 use denote.Signature.{plain}
-use denote.Steps.{only, owned, nothing}
+use denote.Steps.{only, owned}
 use denote.Struct.Laws as LL
 use denote.Enum.Laws as EL
 use denote.Triple.Entry.{onEntry}
@@ -48,7 +48,7 @@ use Rattle.record.specs.declared.Candidate.{Candidate}
 use Rattle.record.proofs.Candidate as C′
 use Rattle.walks.proofs.Ends.{answers, closes}
 use Rattle.walks.proofs.Frees.{frees-at}
-use Rattle.walks.proofs.Handed.{apart, stack, beside, hands, last-two}
+use Rattle.walks.proofs.Handed.{apart, stack, asked, beside, arg, hands, last-two}
 use Rattle.walks.proofs.WalkSteps.{env, lets-go}
 use Rattle.refusals.specs.declared.answered.Answered.{Answered}
 use Rattle.refusals.specs.Refusals.{site, queryGives}
@@ -185,11 +185,11 @@ module _ {M : Type 1} (𝓤 : URA M) (H : Heap 𝓤) (A : Atoms 𝓤) (W : Rules
 
   goes-given : (g : Given) (w : Val) → Is G.the-row g (w ∷ []) → ent 𝓤 (emp 𝓤) (sep 𝓤 (sep 𝓤 (emp 𝓤) (sep 𝓤 (sem 𝓤 H A (G.the-row .own g (w ∷ []))) (emp 𝓤))) (emp 𝓤))
   goes-given g w is =
-      qed W [] ∵ owned ! G.the-row (Is G.the-row) (EL.makes G.the-type G′.the-plain 𝓤 H A) g (w ∷ []) is $ stack ! 1 $ nothing ! $ join ! $ stack ! 1 $ done !
+      qed W [] ∵ owned ! G.the-row (Is G.the-row) (EL.makes G.the-type G′.the-plain 𝓤 H A) g (w ∷ []) is $ asked ! 0 1 $ done !
 
   -- what the check of the words, and that of the table, is handed
   goes-words : ent 𝓤 (sep 𝓤 (A .lft (κs .0) (qs .0)) (sem 𝓤 H A Tabled)) (sep 𝓤 (sep 𝓤 (sep 𝓤 (A .lft (κs .0) (qs .0)) (emp 𝓤)) (sep 𝓤 (sem 𝓤 H A Tabled) (emp 𝓤))) (emp 𝓤))
-  goes-words = qed W (‵ (flft (κs .0) (qs .0)) ∷ ‵ Tabled ∷ []) ∵ stack ! 1 $ move ! (1 ∷ []) $ stack ! 1 $ move ! (1 ∷ 0 ∷ []) $ join ! $ stack ! 1 $ done !
+  goes-words = qed W (‵ (flft (κs .0) (qs .0)) ∷ ‵ Tabled ∷ []) ∵ asked ! 1 1 $ done !
 
   exits : (zs : List Candidate) (new : List ℕ) (r : Answered) (u : Val) → length zs ≡ length ys → length new ≡ length (now ar) → Answers ws q zk ys zs (now ar) new r
       → ent 𝓤 (⋆ 𝓤 H A (‵ (flft (κs .0) (qs .0)) ∷ ‵ (flft (κs .1 .0) (qs .1 .0)) ∷ ‵ (flft (κs .1 .1 .0) (qs .1 .1 .0)) ∷ ‵ Tabled ∷ ‵ (finally R (x .name) zs) ∷ ‵ (finally u32 (ar .name) new) ∷ ‵ (T.the-row .own r (u ∷ [])) ∷ [])) (Post u)
@@ -216,7 +216,7 @@ module _ {M : Type 1} (𝓤 : URA M) (H : Heap 𝓤) (A : Atoms 𝓤) (W : Rules
   at-k = ((tt, tt, tt, (zk, tt), (vint w32 (ofZ w32 zk) ∷ [], tt)), tt)
 
   goes-k : ent 𝓤 (emp 𝓤) (Natural 𝓤 H A mem run .pre at-k)
-  goes-k = qed W [] ∵ owned ! i32 (Is i32) (sint-makes 𝓤 H A W w32) zk _ gk $ stack ! 1 $ nothing ! $ join ! $ stack ! 1 $ done !
+  goes-k = qed W [] ∵ owned ! i32 (Is i32) (sint-makes 𝓤 H A W w32) zk _ gk $ asked ! 0 1 $ done !
 
   abbrev answer-args : ℕ → RefT (List ℤ) × (ℤ × (ℤ × (ℕ × (RefT (List Candidate) × (RefT (List ℕ) × Unit {0})))))
   answer-args k = (tr, (zx, (zy, (k, (x, (ar, tt))))))
@@ -241,7 +241,7 @@ module _ {M : Type 1} (𝓤 : URA M) (H : Heap 𝓤) (A : Atoms 𝓤) (W : Rules
 
   goes-reply : (p : Reply) (w : Val) → ent 𝓤 (sem 𝓤 H A (P.the-row .own p (w ∷ []))) (HandedBack 𝓤 H A mem run .pre (of-reply p w))
   goes-reply p w =
-      qed W (‵ (P.the-row .own p (w ∷ [])) ∷ []) ∵ owned ! usize (Is usize) (uint-makes 𝓤 H A W w64) (length (now ar)) _ (refl, ra .0) $ move ! (1 ∷ 0 ∷ []) $ stack ! 2 $ nothing ! $ join ! $ stack ! 1 $ done !
+      qed W (‵ (P.the-row .own p (w ∷ [])) ∷ []) ∵ owned ! usize (Is usize) (uint-makes 𝓤 H A W w64) (length (now ar)) _ (refl, ra .0) $ move ! (1 ∷ 0 ∷ []) $ asked ! 0 2 $ done !
 
   module _ (C : Calls 𝓤 H) (Λ : Loops 𝓤 H) (fm : FmC 𝓤 H (W .laws) C) (known-words : Triple 𝓤 (C #words·lent·are-words) (AreWords 𝓤 H A mem run)) (known-given : Triple 𝓤 (C #refusals·querying·query-given) (QueryGiven 𝓤 H A mem run)) (known-is-refused : Triple 𝓤 (C #refusals·answered·is-refused) (IsRefused 𝓤 H A mem run)) (known-refused : Triple 𝓤 (C #refusals·answered·refused) (Refused 𝓤 H A mem run)) (known-natural : Triple 𝓤 (C #words·border·natural) (Natural 𝓤 H A mem run)) (known-answer : Triple 𝓤 (C #asking·answer·answer) (Answer 𝓤 H A mem run)) (known-handed : Triple 𝓤 (C #refusals·answered·handed-back) (HandedBack 𝓤 H A mem run)) where
     abbrev En : (l₀ l₁ l₂ l₃ l₄ l₅ l₆ l₇ l₈ l₉ l₁₀ l₁₁ l₁₂ l₁₃ l₁₄ l₁₅ : ℕ) → Env 𝓤 H
@@ -256,42 +256,42 @@ module _ {M : Type 1} (𝓤 : URA M) (H : Heap 𝓤) (A : Atoms 𝓤) (W : Rules
         pass1 ! (init ! 20 refl (tt, (tt, (record { fits = room .0 }, tt)))) $ pass1 ! (init ! 18 refl (tt, (tt, (record { fits = ra .0 }, tt)))) $ pass0 ! $
         -- each word of the table fits
         move ! (35 ∷ []) $ use1 W (‵ Tabled ⊛ ‵ Tabled) tabled-twice $ split ! $ move ! (34 ∷ 0 ∷ []) $ use2 W (raw (AreWords 𝓤 H A mem run .pre at-words)) goes-words $
-        hands ! fm are-words.ended (are-words.clauses 𝓤 H A mem run) known-words at-words (λ r₀ us. All IsWord ws) (λ r₀ us. id⊢ 𝓤 _) (and-then ! (load ! (from ! (stop !)) (look ! 30 refl)) (no-more !)) (λ w₀ r₀ us words is₀. drop ! $ drop ! $
+        hands ! fm are-words.ended (are-words.clauses 𝓤 H A mem run) known-words at-words (λ r₀ us. All IsWord ws) (λ r₀ us. id⊢ 𝓤 _) (arg ! 30 refl (no-more !)) (λ w₀ r₀ us words is₀. drop ! $ drop ! $
         land ! (from ! (stop !)) (init ! 14 refl (nothing-lawful 𝓤 H A W .typed r₀ _ is₀ .0)) $
         assigns ! (of-opd ! (load ! (from ! (fld ! refl (stop !))) (look-in ! 22 (sub ! 1 refl (whole !))))) (from ! (stop !)) (init ! 12 refl (tt, record { fits = room .0 })) $
         -- what the query gives if the answer list has room
         move ! (1 ∷ []) $ use1 W (‵ Tabled ⊛ ‵ Tabled) tabled-twice $ split ! $ move ! (2 ∷ 0 ∷ []) $ use2 W (raw (QueryGiven 𝓤 H A mem run .pre at-given)) goes-query $
         hands ! fm query-given.ended (query-given.clauses 𝓤 H A mem run) known-given at-given (λ g us. g ≡ queryGives ws q zk (length ys) (answersTold ws q zk)) (λ g us. id⊢ 𝓤 _)
-        (and-then ! (load ! (from ! (stop !)) (look ! 30 refl)) (and-then ! (load ! (from ! (stop !)) (look ! 28 refl)) (and-then ! (load ! (from ! (stop !)) (look ! 26 refl)) (and-then ! (load ! (from ! (stop !)) (look ! 24 refl)) (and-then ! (load ! (from ! (stop !)) (look ! 12 refl)) (no-more !)))))) (λ w g us e is. drop ! $
+        (arg ! 30 refl (arg ! 28 refl (arg ! 26 refl (arg ! 24 refl (arg ! 12 refl (no-more !)))))) (λ w g us e is. drop ! $
         land ! (from ! (stop !)) (init ! 19 refl (EL.lawful G.the-type G′.the-laws 𝓤 H A W tt .typed g _ is .0)) $
         -- whether it is a refusal
         use0 W (raw (IsRefused 𝓤 H A mem run .pre (of-given g w))) (goes-given g w is) $
-        answers ! fm is-refused.ended (is-refused.clauses 𝓤 H A mem run) known-is-refused (of-given g w) (λ z. z ≡ refuses g) (λ z us. id⊢ 𝓤 _) (and-then ! (load ! (from ! (stop !)) (look ! 20 refl)) (no-more !)) (λ w₁ z f is₁.
+        answers ! fm is-refused.ended (is-refused.clauses 𝓤 H A mem run) known-is-refused (of-given g w) (λ z. z ≡ refuses g) (λ z us. id⊢ 𝓤 _) (arg ! 20 refl (no-more !)) (λ w₁ z f is₁.
         land ! (from ! (stop !)) (init ! 13 refl (bool-lawful 𝓤 H A W .typed z _ is₁ .0)) $
         rewrite ! 13 (λ (v : Val). ‵ (fat fullShare tyBool l₁₁ 0 v)) (ap only is₁) refl $ drop ! $ drop ! $ drop ! $
         first ! $ branches ! (load ! (from ! (stop !)) (look ! 10 refl))
         (λ yes. use0 W (raw (Refused 𝓤 H A mem run .pre (of-given g w))) (goes-given g w is) $
-        answers ! fm refused.ended (refused.clauses 𝓤 H A mem run) known-refused (of-given g w) (λ r. r ≡ record { given = g; n = 0; m = 0; o = 0 }) (λ r us. id⊢ 𝓤 _) (and-then ! (load ! (from ! (stop !)) (look ! 19 refl)) (no-more !)) (λ u r h is₂.
+        answers ! fm refused.ended (refused.clauses 𝓤 H A mem run) known-refused (of-given g w) (λ r. r ≡ record { given = g; n = 0; m = 0; o = 0 }) (λ r us. id⊢ 𝓤 _) (arg ! 19 refl (no-more !)) (λ u r h is₂.
         land ! (from ! (stop !)) (init ! 34 refl (LL.lawful T.the-type T′.the-laws 𝓤 H A W .typed r _ is₂ .0)) $
         returns-within ! Post refl (look ! 34 refl) $ frees-at ! 4 refl $
         move ! (6 ∷ []) $ use1 W (‵ (finally R (x .name) ys)) (lets-go 𝓤 H A W R (named 1) (κs .1 .0) x (s ∷ [])) $ move ! (7 ∷ []) $ use1 W (‵ (finally u32 (ar .name) (now ar))) (lets-go 𝓤 H A W u32 (named 2) (κs .1 .1 .0) ar (s₂ ∷ [])) $
         keep ! (4 ∷ 6 ∷ 7 ∷ 5 ∷ 1 ∷ 0 ∷ 2 ∷ []) $ by ! (exits ys (now ar) r u refl refl (subst (Answers ws q zk ys ys (now ar) (now ar)) (sym h) (list-refused ws q zk ys (now ar) e (refused-not-done g (sym f ∙ is-true z yes)))))))
         (λ no. skips ! $ exec ! C Λ (En l₀ l₁ l₂ l₃ l₄ l₅ l₆ l₇ l₈ l₉ l₁₀ l₁₁ l₁₂ l₁₃ l₁₄ l₁₅) mir′.t-6 (atRet (En l₀ l₁ l₂ l₃ l₄ l₅ l₆ l₇ l₈ l₉ l₁₀ l₁₁ l₁₂ l₁₃ l₁₄ l₁₅) Post) $
         let granted : g ≡ Done = not-refused-done g (sym f ∙ is-false z no) in
-        use0 W (raw (Natural 𝓤 H A mem run .pre at-k)) goes-k $ answers ! fm natural.ended (natural.clauses 𝓤 H A mem run) known-natural at-k (λ k. k ≡ natOf zk) (λ k us. id⊢ 𝓤 _) (and-then ! (load ! (from ! (stop !)) (look ! 25 refl)) (no-more !)) (λ w₂ k ek isk.
+        use0 W (raw (Natural 𝓤 H A mem run .pre at-k)) goes-k $ answers ! fm natural.ended (natural.clauses 𝓤 H A mem run) known-natural at-k (λ k. k ≡ natOf zk) (λ k us. id⊢ 𝓤 _) (arg ! 25 refl (no-more !)) (λ w₂ k ek isk.
         land ! (from ! (stop !)) (store ! 14 refl (uint-lawful 𝓤 H A W w64 .typed k _ isk .0)) $
         assigns ! (addr ! (from ! (fld ! refl (hop ! (look-in ! 24 (sub ! 0 refl (whole !))) (stop !))))) (from ! (stop !)) (init ! 10 refl (tt, tt)) $
-        assigns ! (agg ! (and-then ! (load ! (from ! (stop !)) (look ! 10 refl)) (and-then ! (load ! (from ! (fld ! refl (stop !))) (look-in ! 24 (sub ! 1 refl (whole !)))) (no-more !)))) (from ! (stop !)) (init ! 8 refl (tt, (tt, (record { fits = room .0 }, tt)))) $
+        assigns ! (agg ! (arg ! 10 refl (and-then ! (load ! (from ! (fld ! refl (stop !))) (look-in ! 24 (sub ! 1 refl (whole !)))) (no-more !)))) (from ! (stop !)) (init ! 8 refl (tt, (tt, (record { fits = room .0 }, tt)))) $
         assigns ! (addr ! (from ! (fld ! refl (hop ! (look-in ! 22 (sub ! 0 refl (whole !))) (stop !))))) (from ! (stop !)) (init ! 6 refl (tt, tt)) $
-        assigns ! (agg ! (and-then ! (load ! (from ! (stop !)) (look ! 6 refl)) (and-then ! (load ! (from ! (fld ! refl (stop !))) (look-in ! 22 (sub ! 1 refl (whole !)))) (no-more !)))) (from ! (stop !)) (init ! 4 refl (tt, (tt, (record { fits = ra .0 }, tt)))) $
+        assigns ! (agg ! (arg ! 6 refl (and-then ! (load ! (from ! (fld ! refl (stop !))) (look-in ! 22 (sub ! 1 refl (whole !)))) (no-more !)))) (from ! (stop !)) (init ! 4 refl (tt, (tt, (record { fits = ra .0 }, tt)))) $
         -- both lists are passed on for good
         move ! (3 ∷ []) $ use1 W (‵ Tabled ⊛ ‵ Tabled) tabled-twice $ split ! $ move ! (4 ∷ 37 ∷ 38 ∷ 0 ∷ 2 ∷ 39 ∷ 40 ∷ []) $ group ! 7 $ use1 W (raw (Answer 𝓤 H A mem run .pre (to-answer k w₂))) (goes-answer k w₂ (askable g words e granted)) $
         hands ! fm answer.ended (answer.clauses 𝓤 H A mem run) known-answer (to-answer k w₂) (λ p vs. Listed ws q k ys (vs .1 .1 .1 .1 .0) (now ar) (vs .1 .1 .1 .1 .1 .0) p) (λ p vs. id⊢ 𝓤 _)
-        (and-then ! (load ! (from ! (stop !)) (look ! 31 refl)) (and-then ! (load ! (from ! (stop !)) (look ! 29 refl)) (and-then ! (load ! (from ! (stop !)) (look ! 27 refl)) (and-then ! (load ! (from ! (stop !)) (look ! 13 refl)) (and-then ! (load ! (from ! (stop !)) (look ! 7 refl)) (and-then ! (load ! (from ! (stop !)) (look ! 3 refl)) (no-more !))))))) (λ w₃ p vs listed isp. last-two ! (λ l₁ l₂. move ! (2 ∷ []) $
+        (arg ! 31 refl (arg ! 29 refl (arg ! 27 refl (arg ! 13 refl (arg ! 7 refl (arg ! 3 refl (no-more !))))))) (λ w₃ p vs listed isp. last-two ! (λ l₁ l₂. move ! (2 ∷ []) $
         land ! (from ! (stop !)) (init ! 22 refl (LL.lawful P.the-type P′.the-laws 𝓤 H A W .typed p _ isp .0)) $
         assigns ! (of-opd ! (load ! (from ! (fld ! refl (stop !))) (look-in ! 26 (sub ! 1 refl (whole !))))) (from ! (stop !)) (store ! 18 refl (tt, record { fits = ra .0 })) $
         use1 W (raw (HandedBack 𝓤 H A mem run .pre (of-reply p w₃))) (goes-reply p w₃) $
-        answers ! fm handed-back.ended (handed-back.clauses 𝓤 H A mem run) known-handed (of-reply p w₃) (λ r. r ≡ told p (length (now ar))) (λ r us. id⊢ 𝓤 _) (and-then ! (load ! (from ! (stop !)) (look ! 22 refl)) (and-then ! (load ! (from ! (stop !)) (look ! 18 refl)) (no-more !))) (λ u r h is₂.
+        answers ! fm handed-back.ended (handed-back.clauses 𝓤 H A mem run) known-handed (of-reply p w₃) (λ r. r ≡ told p (length (now ar))) (λ r us. id⊢ 𝓤 _) (arg ! 22 refl (arg ! 18 refl (no-more !))) (λ u r h is₂.
         land ! (from ! (stop !)) (init ! 39 refl (LL.lawful T.the-type T′.the-laws 𝓤 H A W .typed r _ is₂ .0)) $
         returns ! (look ! 39 refl) $ frees-at ! 9 refl $ keep ! (4 ∷ 5 ∷ 6 ∷ 7 ∷ 2 ∷ 3 ∷ 0 ∷ []) $
         by ! (exits (vs .1 .1 .1 .1 .0) (vs .1 .1 .1 .1 .1 .0) r u l₁ l₂ (subst (Answers ws q zk ys (vs .1 .1 .1 .1 .0) (now ar) (vs .1 .1 .1 .1 .1 .0)) (sym h) (list-told ws q zk ys (vs .1 .1 .1 .1 .0) (now ar) (vs .1 .1 .1 .1 .1 .0) p (subst (λ (j : ℕ). Listed ws q j ys (vs .1 .1 .1 .1 .0) (now ar) (vs .1 .1 .1 .1 .1 .0) p) ek listed) e granted)))))))))))))))))))))))))))
