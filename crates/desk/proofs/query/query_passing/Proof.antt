@@ -23,14 +23,12 @@ use types.Kit.{Given as Rules, ‵, raw, atRet, _⊛_, ⋆, _$_, _∵_, !, qed, 
 use types.Run.{look, init, store, stop, hop, fld, from, load, addr, of-opd, and-then, no-more, assigns, land, first, skips, branches, returns-within, returns, enter, alloc1, alloc0, params1, pass1, pass0, exec}
 use types.Part.{agg, whole, sub, look-in}
 use sound.WpLaws.{FmC}
-use denote.RattleType.{RattleType}
 use denote.Laws.{Is}
 use denote.Plain.{uint-makes, uint-lawful, bool-lawful, nothing-lawful}
-use denote.Signed.{sint-makes, sint-vals, sint-tells, sint-lawful}
+use denote.Signed.{sint-makes, sint-lawful}
 use denote.Builtin.{usize, u32, i32}
 use denote.Ref.{RefT, now}
-use denote.Slice.{sliceVal, slice-vals, mut-slice-tells, shr-slice-tells, MutSlice, ShrSlice, Room, finally, shr-slice-copy}
-use denote.Signature.{plain}
+use denote.Slice.{sliceVal, MutSlice, ShrSlice, Room, finally, shr-slice-copy}
 use denote.Steps.{only, owned}
 use denote.Struct.Laws as LL
 use denote.Enum.Laws as EL
@@ -38,14 +36,13 @@ use denote.Triple.Entry.{onEntry}
 use denote.Triple.Spec.{tripleOf}
 use denote.Triple.Statement.{Contract, Triple}
 use denote.Triple.Table.{cited}
-use denote.Triple.Walked.{says, needs, Stays, gave-slice, stay-none-slice, stay-none, walkOf, goes-gave-slice, goes-none-slice, goes-none, ends-at}
+use denote.Triple.Walked.{says, needs, walkOf, ends-at}
 use denote.Exit.{yes}
 use Rattle.grid.specs.Site.{Site}
 use Rattle.table.specs.declared.given.Given.{Given}
 use Rattle.table.proofs.given.Given as G
 use Rattle.table.proofs.given.Given.Laws as G′
 use Rattle.record.specs.declared.Candidate.{Candidate}
-use Rattle.record.proofs.Candidate as C′
 use Rattle.walks.proofs.Ends.{answers, closes}
 use Rattle.walks.proofs.Frees.{frees-at}
 use Rattle.walks.proofs.Handed.{apart, stack, asked, beside, arg, hands, last-two}
@@ -59,6 +56,7 @@ use Rattle.refusals.proofs.answered.Answered as T
 use Rattle.refusals.proofs.answered.Answered.Laws as T′
 use Rattle.refusals.proofs.QueryOrder.{answersTold}
 use Rattle.desk.proofs.CallList.{is-true, is-false, refused-not-done, not-refused-done, list-refused, list-told}
+use Rattle.desk.proofs.TwoLists.{R, stayed, goes, vals, tells, IsRefused, Refused, of-given, goes-given}
 use Rattle.refusals.proofs.answered.is_refused as is-refused
 use Rattle.refusals.proofs.answered.is_refused.Symbol as is-refused-def
 use Rattle.refusals.proofs.answered.is_refused.Symbol.{name as #refusals·answered·is-refused}
@@ -103,22 +101,7 @@ use Rattle.desk.proofs.query.query_passing.Statement as stated
 use Rattle.desk.proofs.query.query_passing.Code as code
 use Rattle.desk.proofs.query.query_passing.Code.Mir as mir′
 
-abbrev R : RattleType
-R = C′.the-row
-
-abbrev stayed : Stays (f.ended .signature .params) (f.ended .kept)
-stayed = (
-  stay-none-slice (0 ∷ []) tt (plain (λ _. i32)) yes,
-  (stay-none (λ _. i32) yes, (stay-none (λ _. i32) yes, (stay-none (λ _. i32) yes, (gave-slice (1 ∷ []) tt (plain (λ _. R)), (gave-slice (2 ∷ []) tt (plain (λ _. u32)), tt))))),
-)
-
--- the contracts that the proof cites
-abbrev IsRefused : {M : Type 1} (𝓤 : URA M) (H : Heap 𝓤) (A : Atoms 𝓤) (mem : Memory → SProp 𝓤) (run : Routine → Fun 𝓤) → Contract 𝓤
-IsRefused 𝓤 H A mem run = tripleOf 𝓤 H A is-refused.signature (is-refused.spec 𝓤 H A mem run)
-
-abbrev Refused : {M : Type 1} (𝓤 : URA M) (H : Heap 𝓤) (A : Atoms 𝓤) (mem : Memory → SProp 𝓤) (run : Routine → Fun 𝓤) → Contract 𝓤
-Refused 𝓤 H A mem run = tripleOf 𝓤 H A refused.signature (refused.spec 𝓤 H A mem run)
-
+-- the contracts that the proof cites, beside those of `is_refused` and `refused`
 abbrev AreWords : {M : Type 1} (𝓤 : URA M) (H : Heap 𝓤) (A : Atoms 𝓤) (mem : Memory → SProp 𝓤) (run : Routine → Fun 𝓤) → Contract 𝓤
 AreWords 𝓤 H A mem run = tripleOf 𝓤 H A are-words.signature (are-words.spec 𝓤 H A mem run)
 
@@ -178,14 +161,6 @@ module _ {M : Type 1} (𝓤 : URA M) (H : Heap 𝓤) (A : Atoms 𝓤) (W : Rules
 
   abbrev Post : Val → SProp 𝓤
   Post = walkOf 𝓤 H A f.ended stayed (f.clauses 𝓤 H A mem run) .post ((κs, qs, tt, a, at), tt)
-
-  -- what the triples of `is_refused` and `refused` bind outside
-  abbrev of-given : Given → Val → ((Unit {0} × Unit {0} × Unit {0} × (Given × Unit {0}) × (List Val × Unit {0})) × Unit {0})
-  of-given g w = ((tt, tt, tt, (g, tt), (w ∷ [], tt)), tt)
-
-  goes-given : (g : Given) (w : Val) → Is G.the-row g (w ∷ []) → ent 𝓤 (emp 𝓤) (sep 𝓤 (sep 𝓤 (emp 𝓤) (sep 𝓤 (sem 𝓤 H A (G.the-row .own g (w ∷ []))) (emp 𝓤))) (emp 𝓤))
-  goes-given g w is =
-      qed W [] ∵ owned ! G.the-row (Is G.the-row) (EL.makes G.the-type G′.the-plain 𝓤 H A) g (w ∷ []) is $ asked ! 0 1 $ done !
 
   -- what the check of the words, and that of the table, is handed
   goes-words : ent 𝓤 (sep 𝓤 (A .lft (κs .0) (qs .0)) (sem 𝓤 H A Tabled)) (sep 𝓤 (sep 𝓤 (sep 𝓤 (A .lft (κs .0) (qs .0)) (emp 𝓤)) (sep 𝓤 (sem 𝓤 H A Tabled) (emp 𝓤))) (emp 𝓤))
@@ -265,12 +240,12 @@ module _ {M : Type 1} (𝓤 : URA M) (H : Heap 𝓤) (A : Atoms 𝓤) (W : Rules
         (arg ! 30 refl (arg ! 28 refl (arg ! 26 refl (arg ! 24 refl (arg ! 12 refl (no-more !)))))) (λ w g us e is. drop ! $
         land ! (from ! (stop !)) (init ! 19 refl (EL.lawful G.the-type G′.the-laws 𝓤 H A W tt .typed g _ is .0)) $
         -- whether it is a refusal
-        use0 W (raw (IsRefused 𝓤 H A mem run .pre (of-given g w))) (goes-given g w is) $
+        use0 W (raw (IsRefused 𝓤 H A mem run .pre (of-given g w))) (goes-given 𝓤 H A W g w is) $
         answers ! fm is-refused.ended (is-refused.clauses 𝓤 H A mem run) known-is-refused (of-given g w) (λ z. z ≡ refuses g) (λ z us. id⊢ 𝓤 _) (arg ! 20 refl (no-more !)) (λ w₁ z f is₁.
         land ! (from ! (stop !)) (init ! 13 refl (bool-lawful 𝓤 H A W .typed z _ is₁ .0)) $
         rewrite ! 13 (λ (v : Val). ‵ (fat fullShare tyBool l₁₁ 0 v)) (ap only is₁) refl $ drop ! $ drop ! $ drop ! $
         first ! $ branches ! (load ! (from ! (stop !)) (look ! 10 refl))
-        (λ yes. use0 W (raw (Refused 𝓤 H A mem run .pre (of-given g w))) (goes-given g w is) $
+        (λ yes. use0 W (raw (Refused 𝓤 H A mem run .pre (of-given g w))) (goes-given 𝓤 H A W g w is) $
         answers ! fm refused.ended (refused.clauses 𝓤 H A mem run) known-refused (of-given g w) (λ r. r ≡ record { given = g; n = 0; m = 0; o = 0 }) (λ r us. id⊢ 𝓤 _) (arg ! 19 refl (no-more !)) (λ u r h is₂.
         land ! (from ! (stop !)) (init ! 34 refl (LL.lawful T.the-type T′.the-laws 𝓤 H A W .typed r _ is₂ .0)) $
         returns-within ! Post refl (look ! 34 refl) $ frees-at ! 4 refl $
@@ -307,10 +282,5 @@ query-passing-spec 𝓤 H 𝓜 𝓖 𝓡 =
     let natural-met = cited 𝓤 H (Natural 𝓤 H (𝓖 .A) (𝓜 .mem) (𝓡 .run)) 𝓜 𝓡 code.env #words·border·natural natural-def.routine code.calls-words·border·natural (natural-thm.met 𝓤 H 𝓜 𝓖 𝓡) in
     let answer-met = cited 𝓤 H (Answer 𝓤 H (𝓖 .A) (𝓜 .mem) (𝓡 .run)) 𝓜 𝓡 code.env #asking·answer·answer answer-def.routine code.calls-asking·answer·answer (answer-thm.met 𝓤 H 𝓜 𝓖 𝓡) in
     let handed-met = cited 𝓤 H (HandedBack 𝓤 H (𝓖 .A) (𝓜 .mem) (𝓡 .run)) 𝓜 𝓡 code.env #refusals·answered·handed-back handed-back-def.routine code.calls-refusals·answered·handed-back (handed-back-thm.met 𝓤 H 𝓜 𝓖 𝓡) in
-    closes 𝓤 H 𝓜 𝓖 𝓡 code.env #desk·query·query-passing code.function (code.unfolded 𝓤 H 𝓜 𝓡) f.ended stayed (
-      goes-none-slice 𝓤 H (𝓖 .A) W 3 (0 ∷ []) tt (plain (λ _. i32)) yes,
-      (goes-none 𝓤 H (𝓖 .A) W 3 (λ _. i32) yes (λ κs x f. refl), (goes-none 𝓤 H (𝓖 .A) W 3 (λ _. i32) yes (λ κs x f. refl), (goes-none 𝓤 H (𝓖 .A) W 3 (λ _. i32) yes (λ κs x f. refl), (goes-gave-slice 𝓤 H (𝓖 .A) W 3 1 tt (plain (λ _. R)), (goes-gave-slice 𝓤 H (𝓖 .A) W 3 2 tt (plain (λ _. u32)), tt))))),
-    ) (f.clauses 𝓤 H (𝓖 .A) (𝓜 .mem) (𝓡 .run))
-    (λ κs. (slice-vals, (sint-vals w32, (sint-vals w32, (sint-vals w32, (slice-vals, (slice-vals, tt)))))))
-    (λ κs. (shr-slice-tells (named 0) (κs .0) i32, (sint-tells w32, (sint-tells w32, (sint-tells w32, (mut-slice-tells (named 1) (κs .1 .0) R, (mut-slice-tells (named 2) (κs .1 .1 .0) u32, tt)))))))
+    closes 𝓤 H 𝓜 𝓖 𝓡 code.env #desk·query·query-passing code.function (code.unfolded 𝓤 H 𝓜 𝓡) f.ended stayed (goes 𝓤 H (𝓖 .A) W) (f.clauses 𝓤 H (𝓖 .A) (𝓜 .mem) (𝓡 .run)) vals tells
     (λ fm x g are. needs 𝓤 _ _ (λ pre. walk 𝓤 H (𝓖 .A) W (𝓜 .mem) (𝓡 .run) (x .0) (x .1) (x .3 .0) (x .3 .1 .0) (x .3 .1 .1 .0) (x .3 .1 .1 .1 .0) (x .3 .1 .1 .1 .1 .0) (x .3 .1 .1 .1 .1 .1 .0) (are .0 .0 .1) (are .1 .0) (are .1 .1 .0) (are .1 .1 .1 .0) (are .1 .1 .1 .1 .0 .0 .1) (are .1 .1 .1 .1 .1 .0 .0 .1) pre _ _ fm words-met given-met is-refused-met refused-met natural-met answer-met handed-met))
