@@ -76,11 +76,12 @@ stayed = (
 )
 
 -- the contracts that the proof cites
-abbrev Query : {M : Type 1} (𝓤 : URA M) (H : Heap 𝓤) (A : Atoms 𝓤) (mem : Memory → SProp 𝓤) (run : Routine → Fun 𝓤) → Contract 𝓤
-Query 𝓤 H A mem run = tripleOf 𝓤 H A query.signature (query.spec 𝓤 H A mem run)
+module _ {M : Type 1} (𝓤 : URA M) (H : Heap 𝓤) (A : Atoms 𝓤) (mem : Memory → SProp 𝓤) (run : Routine → Fun 𝓤) where
+  abbrev Query : Contract 𝓤
+  Query = tripleOf 𝓤 H A query.signature (query.spec 𝓤 H A mem run)
 
-abbrev Told′ : {M : Type 1} (𝓤 : URA M) (H : Heap 𝓤) (A : Atoms 𝓤) (mem : Memory → SProp 𝓤) (run : Routine → Fun 𝓤) → Contract 𝓤
-Told′ 𝓤 H A mem run = tripleOf 𝓤 H A told.signature (told.spec 𝓤 H A mem run)
+  abbrev Told′ : Contract 𝓤
+  Told′ = tripleOf 𝓤 H A told.signature (told.spec 𝓤 H A mem run)
 
 module _ {M : Type 1} (𝓤 : URA M) (H : Heap 𝓤) (A : Atoms 𝓤) (W : Given 𝓤 H A) (mem : Memory → SProp 𝓤) (run : Routine → Fun 𝓤) (κs : Lfts 4) (qs : Shares 4)
     (tr : RefT (List ℤ)) (zx zy zk : ℤ) (x : RefT (List Candidate)) (ar cr : RefT (List ℕ)) (rt : Room i32 (length (now tr))) (gx : Is i32 zx (vint w32 (ofZ w32 zx) ∷ [])) (gy : Is i32 zy (vint w32 (ofZ w32 zy) ∷ [])) (gk : Is i32 zk (vint w32 (ofZ w32 zk) ∷ []))

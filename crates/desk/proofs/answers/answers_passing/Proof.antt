@@ -82,11 +82,12 @@ stayed = (
 )
 
 -- the contracts that the proof cites
-abbrev Blank : {M : Type 1} (𝓤 : URA M) (H : Heap 𝓤) (A : Atoms 𝓤) (mem : Memory → SProp 𝓤) (run : Routine → Fun 𝓤) → Contract 𝓤
-Blank 𝓤 H A mem run = tripleOf 𝓤 H A blank-list.signature (blank-list.spec 𝓤 H A mem run)
+module _ {M : Type 1} (𝓤 : URA M) (H : Heap 𝓤) (A : Atoms 𝓤) (mem : Memory → SProp 𝓤) (run : Routine → Fun 𝓤) where
+  abbrev Blank : Contract 𝓤
+  Blank = tripleOf 𝓤 H A blank-list.signature (blank-list.spec 𝓤 H A mem run)
 
-abbrev Passing : {M : Type 1} (𝓤 : URA M) (H : Heap 𝓤) (A : Atoms 𝓤) (mem : Memory → SProp 𝓤) (run : Routine → Fun 𝓤) → Contract 𝓤
-Passing 𝓤 H A mem run = tripleOf 𝓤 H A query-passing.signature (query-passing.spec 𝓤 H A mem run)
+  abbrev Passing : Contract 𝓤
+  Passing = tripleOf 𝓤 H A query-passing.signature (query-passing.spec 𝓤 H A mem run)
 
 -- what `blank_list` is handed: nothing
 abbrev Nothing : Type 0

@@ -82,11 +82,12 @@ use Rattle.desk.proofs.query.query.Code as code
 use Rattle.desk.proofs.query.query.Code.Mir as mir′
 
 -- the contracts that the proof cites, beside those of `is_refused` and `refused`
-abbrev Check : {M : Type 1} (𝓤 : URA M) (H : Heap 𝓤) (A : Atoms 𝓤) (mem : Memory → SProp 𝓤) (run : Routine → Fun 𝓤) → Contract 𝓤
-Check 𝓤 H A mem run = tripleOf 𝓤 H A check.signature (check.spec 𝓤 H A mem run)
+module _ {M : Type 1} (𝓤 : URA M) (H : Heap 𝓤) (A : Atoms 𝓤) (mem : Memory → SProp 𝓤) (run : Routine → Fun 𝓤) where
+  abbrev Check : Contract 𝓤
+  Check = tripleOf 𝓤 H A check.signature (check.spec 𝓤 H A mem run)
 
-abbrev Passing : {M : Type 1} (𝓤 : URA M) (H : Heap 𝓤) (A : Atoms 𝓤) (mem : Memory → SProp 𝓤) (run : Routine → Fun 𝓤) → Contract 𝓤
-Passing 𝓤 H A mem run = tripleOf 𝓤 H A query-passing.signature (query-passing.spec 𝓤 H A mem run)
+  abbrev Passing : Contract 𝓤
+  Passing = tripleOf 𝓤 H A query-passing.signature (query-passing.spec 𝓤 H A mem run)
 
 module _ {M : Type 1} (𝓤 : URA M) (H : Heap 𝓤) (A : Atoms 𝓤) (W : Rules 𝓤 H A) (mem : Memory → SProp 𝓤) (run : Routine → Fun 𝓤) (κs : Lfts 3) (qs : Shares 3)
     (tr : RefT (List ℤ)) (zx zy zk : ℤ) (x : RefT (List Candidate)) (ar : RefT (List ℕ)) (rt : Room i32 (length (now tr))) (gx : Is i32 zx (vint w32 (ofZ w32 zx) ∷ [])) (gy : Is i32 zy (vint w32 (ofZ w32 zy) ∷ [])) (gk : Is i32 zk (vint w32 (ofZ w32 zk) ∷ []))

@@ -102,20 +102,21 @@ use Rattle.desk.proofs.query.query_passing.Code as code
 use Rattle.desk.proofs.query.query_passing.Code.Mir as mir′
 
 -- the contracts that the proof cites, beside those of `is_refused` and `refused`
-abbrev AreWords : {M : Type 1} (𝓤 : URA M) (H : Heap 𝓤) (A : Atoms 𝓤) (mem : Memory → SProp 𝓤) (run : Routine → Fun 𝓤) → Contract 𝓤
-AreWords 𝓤 H A mem run = tripleOf 𝓤 H A are-words.signature (are-words.spec 𝓤 H A mem run)
+module _ {M : Type 1} (𝓤 : URA M) (H : Heap 𝓤) (A : Atoms 𝓤) (mem : Memory → SProp 𝓤) (run : Routine → Fun 𝓤) where
+  abbrev AreWords : Contract 𝓤
+  AreWords = tripleOf 𝓤 H A are-words.signature (are-words.spec 𝓤 H A mem run)
 
-abbrev QueryGiven : {M : Type 1} (𝓤 : URA M) (H : Heap 𝓤) (A : Atoms 𝓤) (mem : Memory → SProp 𝓤) (run : Routine → Fun 𝓤) → Contract 𝓤
-QueryGiven 𝓤 H A mem run = tripleOf 𝓤 H A query-given.signature (query-given.spec 𝓤 H A mem run)
+  abbrev QueryGiven : Contract 𝓤
+  QueryGiven = tripleOf 𝓤 H A query-given.signature (query-given.spec 𝓤 H A mem run)
 
-abbrev Natural : {M : Type 1} (𝓤 : URA M) (H : Heap 𝓤) (A : Atoms 𝓤) (mem : Memory → SProp 𝓤) (run : Routine → Fun 𝓤) → Contract 𝓤
-Natural 𝓤 H A mem run = tripleOf 𝓤 H A natural.signature (natural.spec 𝓤 H A mem run)
+  abbrev Natural : Contract 𝓤
+  Natural = tripleOf 𝓤 H A natural.signature (natural.spec 𝓤 H A mem run)
 
-abbrev Answer : {M : Type 1} (𝓤 : URA M) (H : Heap 𝓤) (A : Atoms 𝓤) (mem : Memory → SProp 𝓤) (run : Routine → Fun 𝓤) → Contract 𝓤
-Answer 𝓤 H A mem run = tripleOf 𝓤 H A answer.signature (answer.spec 𝓤 H A mem run)
+  abbrev Answer : Contract 𝓤
+  Answer = tripleOf 𝓤 H A answer.signature (answer.spec 𝓤 H A mem run)
 
-abbrev HandedBack : {M : Type 1} (𝓤 : URA M) (H : Heap 𝓤) (A : Atoms 𝓤) (mem : Memory → SProp 𝓤) (run : Routine → Fun 𝓤) → Contract 𝓤
-HandedBack 𝓤 H A mem run = tripleOf 𝓤 H A handed-back.signature (handed-back.spec 𝓤 H A mem run)
+  abbrev HandedBack : Contract 𝓤
+  HandedBack = tripleOf 𝓤 H A handed-back.signature (handed-back.spec 𝓤 H A mem run)
 
 module _ {M : Type 1} (𝓤 : URA M) (H : Heap 𝓤) (A : Atoms 𝓤) (W : Rules 𝓤 H A) (mem : Memory → SProp 𝓤) (run : Routine → Fun 𝓤) (κs : Lfts 3) (qs : Shares 3)
     (tr : RefT (List ℤ)) (zx zy zk : ℤ) (x : RefT (List Candidate)) (ar : RefT (List ℕ)) (rt : Room i32 (length (now tr))) (gx : Is i32 zx (vint w32 (ofZ w32 zx) ∷ [])) (gy : Is i32 zy (vint w32 (ofZ w32 zy) ∷ [])) (gk : Is i32 zk (vint w32 (ofZ w32 zk) ∷ []))
