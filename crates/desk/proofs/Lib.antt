@@ -8,3 +8,4 @@ pub mod CallQuery
 pub mod CallList
 pub mod CallAlone
 pub mod Once
+pub mod TwoLists

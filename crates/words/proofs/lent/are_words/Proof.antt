@@ -13,13 +13,12 @@ use base.Logic.{SProp, ent, guard, guardI, emp, via, fst∗}
 use base.Fml.{Lft, Share, GName, ftrue, flft}
 use prog.Memory.{Memory}
 use prog.Routine.{Routine}
-use prog.Wp.{Heap, Calls, Loops, WpFn, Tables}
+use prog.Wp.{Heap, Calls, Loops, WpFn}
 use ghost.Atoms.{Atoms, sem}
 use contract.Monad.{Fun}
-use contract.Running.{givenOf, tables, tablesOf}
+use contract.Running.{givenOf}
 use types.Kit.{Given, ‵, _⊛_, given, _$_, _∵_, !, qed, by, move, use1, learn, check, split, join, fsplit, fjoin, feqI, suffices, frame, done}
-use types.Run.{look, init, forget, stop, from, unit-lit, of-opd, assigns, returns, enter, alloc1, alloc0, params1, pass1, pass0, free1, free0}
-use sound.WpLaws.{WpFn-mono}
+use types.Run.{look, init, stop, from, unit-lit, of-opd, assigns, returns, enter, alloc1, alloc0, params1, pass1, pass0}
 use denote.RattleType.{RattleType, owns}
 use denote.Laws.{Is, shows}
 use denote.Memory.{mem as memOf}
@@ -29,12 +28,12 @@ use denote.Slice.{sliceVal, ShrSlice, Room, slice-vals, shr-slice-tells}
 use denote.Index.{row, elem-out, elem-back, looks-slice, shuts-slice}
 use denote.Signature.{plain}
 use denote.Triple.Entry.{onEntry}
-use denote.Triple.Spec.{Meets, tripleOf}
-use denote.Triple.Table.{entered}
-use denote.Triple.Walked.{says, Stays, stay-none-slice, walkOf, goes-none-slice, Walks, ends-at, walked, walk-meets}
+use denote.Triple.Walked.{says, Stays, stay-none-slice, walkOf, goes-none-slice, ends-at}
 use denote.Exit.{yes}
 use Rattle.words.specs.Word.{IsWord}
 use Rattle.words.proofs.Words.{fits-word}
+use Rattle.walks.proofs.Ends.{closes}
+use Rattle.walks.proofs.Frees.{frees-at}
 use Rattle.order.specs.Lists.{All}
 use Rattle.words.proofs.lent.are_words.Key.{name as #are-words}
 use Rattle.words.proofs.lent.are_words as f
@@ -90,23 +89,12 @@ module _ {M : Type 1} (𝓤 : URA M) (H : Heap 𝓤) (A : Atoms 𝓤) (W : Given
         -- [the token; the fractured borrow; true; res; the fact; true; words; …; the result; …]
         move ! (3 ∷ 1 ∷ []) $ fjoin ! $ move ! (3 ∷ 0 ∷ []) $ fjoin ! $ move ! (0 ∷ 3 ∷ []) $ fjoin ! $ move ! (1 ∷ 2 ∷ []) $ join ! $
         assigns ! (of-opd ! (unit-lit !)) (from ! (stop !)) (init ! 4 refl (tt, tt)) $
-        returns ! (look ! 4 refl) $ forget ! 2 refl $ forget ! 4 refl $ move ! (4 ∷ 5 ∷ []) $ free1 ! $ move ! (2 ∷ 3 ∷ []) $ free1 ! $ free0 ! $ by ! (exits a)))))
-
-module _ {M : Type 1} (𝓤 : URA M) (H : Heap 𝓤) (A : Atoms 𝓤) (W : Given 𝓤 H A) (mem : Memory → SProp 𝓤) (run : Routine → Fun 𝓤) where
-  are-words-walks : (C : Calls 𝓤 H) (Λ : Loops 𝓤 H) → Walks 𝓤 H A f.ended stayed (WpFn 𝓤 H C Λ code.function) (f.clauses 𝓤 H A mem run)
-  are-words-walks C Λ = walked 𝓤 H A f.ended stayed (f.clauses 𝓤 H A mem run) (WpFn 𝓤 H C Λ code.function)
-      (λ κs. (slice-vals, tt)) (λ κs. (shr-slice-tells (named 0) (κs .0) R, tt))
-      (λ κs qs bounds a g are. via 𝓤 _ (fst∗ 𝓤 _ (emp 𝓤)) (walk 𝓤 H A W mem run (κs .0) (qs .0) (a .0 .ptr .0) (a .0 .ptr .1) (a .0 .name) (a .0 .now) C Λ (are .0 .0 .1)))
-
-are-words-meets : {M : Type 1} (𝓤 : URA M) (H : Heap 𝓤) (A : Atoms 𝓤) → Given 𝓤 H A → (mem : Memory → SProp 𝓤) (run : Routine → Fun 𝓤) (𝓣 : Tables 𝓤 H)
-    → Meets 𝓤 H A f.signature (WpFn 𝓤 H (𝓣 .C) (𝓣 .Λ) code.function) (f.spec 𝓤 H A mem run)
-are-words-meets 𝓤 H A W mem run 𝓣 =
-    walk-meets 𝓤 H A f.ended stayed W (goes-none-slice 𝓤 H A W 1 (0 ∷ []) tt (plain (λ _. R)) yes, tt) (f.clauses 𝓤 H A mem run)
-    (WpFn 𝓤 H (𝓣 .C) (𝓣 .Λ) code.function) (WpFn-mono 𝓤 H (W .laws) 𝓣 code.function) (are-words-walks 𝓤 H A W mem run (𝓣 .C) (𝓣 .Λ))
+        returns ! (look ! 4 refl) $ frees-at ! 2 refl $ by ! (exits a)))))
 
 pub are-words-spec : {M : Type 1} → stated.statement M
-unfolding code.routine tablesOf
+unfolding code.routine
 are-words-spec 𝓤 H 𝓜 𝓖 𝓡 =
-    entered 𝓤 H (tripleOf 𝓤 H (𝓖 .A) f.signature (f.spec 𝓤 H (𝓖 .A) (𝓜 .mem) (𝓡 .run)))
-    (tables 𝓤 H 𝓜 𝓡 code.env .C) (tables 𝓤 H 𝓜 𝓡 code.env .Λ) #are-words code.function (code.unfolded 𝓤 H 𝓜 𝓡)
-    (are-words-meets 𝓤 H (𝓖 .A) (givenOf 𝓤 H 𝓜 𝓖) (𝓜 .mem) (𝓡 .run) (tablesOf 𝓤 H 𝓜 (tables 𝓤 H 𝓜 𝓡 code.env)))
+    let W = givenOf 𝓤 H 𝓜 𝓖 in
+    closes 𝓤 H 𝓜 𝓖 𝓡 code.env #are-words code.function (code.unfolded 𝓤 H 𝓜 𝓡) f.ended stayed (goes-none-slice 𝓤 H (𝓖 .A) W 1 (0 ∷ []) tt (plain (λ _. R)) yes, tt) (f.clauses 𝓤 H (𝓖 .A) (𝓜 .mem) (𝓡 .run))
+    (λ κs. (slice-vals, tt)) (λ κs. (shr-slice-tells (named 0) (κs .0) R, tt))
+    (λ fm x g are. via 𝓤 _ (fst∗ 𝓤 _ (emp 𝓤)) (walk 𝓤 H (𝓖 .A) W (𝓜 .mem) (𝓡 .run) (x .0 .0) (x .1 .0) (x .3 .0 .ptr .0) (x .3 .0 .ptr .1) (x .3 .0 .name) (x .3 .0 .now) _ _ (are .0 .0 .1)))
