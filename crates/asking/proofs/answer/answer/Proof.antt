@@ -16,16 +16,16 @@ use base.Logic.{SProp, ent, sep, id⊢}
 use base.Fml.{GName, Fml, ftrue, flft, flent, fat}
 use prog.Memory.{Memory}
 use prog.Routine.{Routine}
-use prog.Wp.{Heap, Calls, Loops, WpFn, Tables}
+use prog.Wp.{Heap, Calls, Loops, WpFn}
 use ghost.Atoms.{Atoms, sem}
 use contract.Monad.{Fun, fact}
 use contract.Lifetimes.{Lfts, Shares}
-use contract.Running.{givenOf, tables, tablesOf}
+use contract.Running.{givenOf}
 use types.Kit.{Given, ‵, raw, given, _⊛_, ⋆, some, later, _$_, _∵_, !, qed, by, move, keep, drop, use0, use1, use2, use3, group, split, split3, join, pick, learn, rewrite, fsplit, fjoin, feqL, suffices, frame, await, done}
 use types.Run.{look, init, store, forget, stop, hop, fld, from, load, lit, addr, of-opd, and-then, no-more, assigns, land, returns, enter, alloc1, alloc0, params1, pass1, pass0, free1, free0}
 use types.Tokens.{lft-new, lft-end}
 use types.Part.{agg, whole, sub, look-in}
-use sound.WpLaws.{FmC, fmOf, WpFn-mono}
+use sound.WpLaws.{FmC}
 use denote.RattleType.{RattleType, owns}
 use denote.Laws.{Is, shows}
 use denote.Array.{Array, array-lawful}
@@ -40,12 +40,12 @@ use denote.Signature.{plain}
 use denote.Steps.{only, owned, peeks, heard, nothing}
 use denote.Struct.Laws as LL
 use denote.Triple.Entry.{onEntry}
-use denote.Triple.Spec.{Meets, tripleOf}
+use denote.Triple.Spec.{tripleOf}
 use denote.Triple.Statement.{Contract, Triple}
 use denote.Triple.Call.{calls-at}
 use denote.Triple.Clauses.{ensured, lasts}
-use denote.Triple.Table.{entered, cited}
-use denote.Triple.Walked.{says, needs, Stays, stay-slice, gave-slice, stay-none-slice, stay-none, walkOf, goes-slice, goes-gave-slice, goes-none-slice, goes-none, Walks, ends-at, walked, walk-meets}
+use denote.Triple.Table.{cited}
+use denote.Triple.Walked.{says, needs, Stays, stay-slice, gave-slice, stay-none-slice, stay-none, walkOf, goes-slice, goes-gave-slice, goes-none-slice, goes-none, ends-at}
 use denote.Exit.{yes}
 use Rattle.grid.specs.Site.{Site}
 use Rattle.grid.proofs.Site.{SiteOnGrid}
@@ -61,6 +61,7 @@ use Rattle.asking.proofs.answer.Reply.Laws as P′
 use Rattle.vetting.specs.Tested.{numbersPassing, Keepable}
 use Rattle.asking.specs.Asked.{Askable, Filled, Listed}
 use Rattle.record.proofs.Candidate as T
+use Rattle.walks.proofs.Ends.{closes}
 use Rattle.walks.proofs.Again.{LentAgain, lends-again, comes-back}
 use Rattle.walks.proofs.Reshared.{LentToRead, shares-again, comes-back-read}
 use Rattle.walks.proofs.LentRow.{Whole, laid, taken, counted, lends, ends}
@@ -286,32 +287,16 @@ module _ {M : Type 1} (𝓤 : URA M) (H : Heap 𝓤) (A : Atoms 𝓤) (W : Given
         move ! (54 ∷ 55 ∷ []) $ free1 ! $ move ! (52 ∷ 53 ∷ []) $ free1 ! $ move ! (50 ∷ 51 ∷ []) $ free1 ! $ move ! (48 ∷ 49 ∷ []) $ free1 ! $ move ! (46 ∷ 47 ∷ []) $ free1 ! $ move ! (44 ∷ 45 ∷ []) $ free1 ! $ move ! (42 ∷ 43 ∷ []) $ free1 ! $ move ! (40 ∷ 41 ∷ []) $ free1 ! $ move ! (38 ∷ 39 ∷ []) $ free1 ! $ move ! (5 ∷ 37 ∷ []) $ free1 ! $ move ! (34 ∷ 35 ∷ []) $ free1 ! $ move ! (32 ∷ 33 ∷ []) $ free1 ! $ move ! (30 ∷ 31 ∷ []) $ free1 ! $ move ! (28 ∷ 29 ∷ []) $ free1 ! $ move ! (26 ∷ 27 ∷ []) $ free1 ! $ move ! (24 ∷ 25 ∷ []) $ free1 ! $ move ! (22 ∷ 23 ∷ []) $ free1 ! $ move ! (20 ∷ 21 ∷ []) $ free1 ! $ move ! (18 ∷ 19 ∷ []) $ free1 ! $ move ! (16 ∷ 17 ∷ []) $ free1 ! $ free0 ! $
         keep ! (5 ∷ 8 ∷ 6 ∷ 1 ∷ 11 ∷ 3 ∷ 0 ∷ []) $ by ! (exits zs (ts .1 .1 .1 .0) r u l l′ (subst (Listed ws q k ys zs (now ar) (ts .1 .1 .1 .0)) (sym (told′ .0)) (replies (pre .table) q grid k filled (pre .room) c ks ks₀ (kept .0) (kept .1) (now ar) (ts .1 .1 .1 .0) (told′ .1))))))))))))))))))))))))))))))))))))))))))))))))))))
 
-module _ {M : Type 1} (𝓤 : URA M) (H : Heap 𝓤) (A : Atoms 𝓤) (W : Given 𝓤 H A) (mem : Memory → SProp 𝓤) (run : Routine → Fun 𝓤) where
-  answer-walks : (C : Calls 𝓤 H) (Λ : Loops 𝓤 H) → FmC 𝓤 H (W .laws) C → Triple 𝓤 (C #asking·fill·fill) (Fill 𝓤 H A mem run) → Triple 𝓤 (C #asking·answer·numbers) (Numbers 𝓤 H A mem run)
-      → Triple 𝓤 (C #vetting·keep·keep-passing) (Keep 𝓤 H A mem run) → Triple 𝓤 (C #asking·answer·put-answers) (Replies 𝓤 H A mem run) → Walks 𝓤 H A f.ended stayed (WpFn 𝓤 H C Λ code.function) (f.clauses 𝓤 H A mem run)
-  answer-walks C Λ fm known-fill known-numbers known-keep known-reply = walked 𝓤 H A f.ended stayed (f.clauses 𝓤 H A mem run) (WpFn 𝓤 H C Λ code.function)
-      (λ κs. (slice-vals, (sint-vals w32, (sint-vals w32, (uint-vals w64, (slice-vals, (slice-vals, tt)))))))
-      (λ κs. (shr-slice-tells (named 0) (κs .0) i32, (sint-tells w32, (sint-tells w32, (uint-tells w64, (mut-slice-tells (named 1) (κs .1 .0) R, (mut-slice-tells (named 2) (κs .1 .1 .0) u32, tt)))))))
-      (λ κs qs bounds a g are. needs 𝓤 (Askable (now (a .0)) (record { x = a .1 .0; y = a .1 .1 .0 }) (length (now (a .1 .1 .1 .1 .0)))) _ (λ pre.
-      walk 𝓤 H A W mem run κs qs (a .0) (a .1 .0) (a .1 .1 .0) (a .1 .1 .1 .0) (a .1 .1 .1 .1 .0 .ptr .0) (a .1 .1 .1 .1 .0 .ptr .1) (a .1 .1 .1 .1 .0 .name) (a .1 .1 .1 .1 .0 .now) (a .1 .1 .1 .1 .1 .0)
-      (are .0 .0 .1) (are .1 .0) (are .1 .1 .0) (are .1 .1 .1 .0 .1) (are .1 .1 .1 .1 .0 .0 .1) (are .1 .1 .1 .1 .1 .0 .0 .1) pre C Λ fm known-fill known-numbers known-keep known-reply))
-
-answer-meets : {M : Type 1} (𝓤 : URA M) (H : Heap 𝓤) (A : Atoms 𝓤) → Given 𝓤 H A → (mem : Memory → SProp 𝓤) (run : Routine → Fun 𝓤) (𝓣 : Tables 𝓤 H) → Triple 𝓤 (𝓣 .C #asking·fill·fill) (Fill 𝓤 H A mem run) → Triple 𝓤 (𝓣 .C #asking·answer·numbers) (Numbers 𝓤 H A mem run)
-    → Triple 𝓤 (𝓣 .C #vetting·keep·keep-passing) (Keep 𝓤 H A mem run) → Triple 𝓤 (𝓣 .C #asking·answer·put-answers) (Replies 𝓤 H A mem run) → Meets 𝓤 H A f.signature (WpFn 𝓤 H (𝓣 .C) (𝓣 .Λ) code.function) (f.spec 𝓤 H A mem run)
-answer-meets 𝓤 H A W mem run 𝓣 known-fill known-numbers known-keep known-reply =
-    walk-meets 𝓤 H A f.ended stayed W (
-      goes-none-slice 𝓤 H A W 3 (0 ∷ []) tt (plain (λ _. i32)) yes,
-      (goes-none 𝓤 H A W 3 (λ _. i32) yes (λ κs x f. refl), (goes-none 𝓤 H A W 3 (λ _. i32) yes (λ κs x f. refl), (goes-none 𝓤 H A W 3 (λ _. usize) yes (λ κs x f. refl), (goes-slice 𝓤 H A W 3 1 tt (plain (λ _. R)), (goes-gave-slice 𝓤 H A W 3 2 tt (plain (λ _. u32)), tt))))),
-    ) (f.clauses 𝓤 H A mem run)
-    (WpFn 𝓤 H (𝓣 .C) (𝓣 .Λ) code.function) (WpFn-mono 𝓤 H (W .laws) 𝓣 code.function) (answer-walks 𝓤 H A W mem run (𝓣 .C) (𝓣 .Λ) (fmOf 𝓤 H (W .laws) 𝓣) known-fill known-numbers known-keep known-reply)
-
 pub answer-spec : {M : Type 1} → stated.statement M
-unfolding code.routine tablesOf
+unfolding code.routine
 answer-spec 𝓤 H 𝓜 𝓖 𝓡 =
-    entered 𝓤 H (tripleOf 𝓤 H (𝓖 .A) f.signature (f.spec 𝓤 H (𝓖 .A) (𝓜 .mem) (𝓡 .run)))
-    (tables 𝓤 H 𝓜 𝓡 code.env .C) (tables 𝓤 H 𝓜 𝓡 code.env .Λ) #asking·answer·answer code.function (code.unfolded 𝓤 H 𝓜 𝓡)
-    (answer-meets 𝓤 H (𝓖 .A) (givenOf 𝓤 H 𝓜 𝓖) (𝓜 .mem) (𝓡 .run) (tablesOf 𝓤 H 𝓜 (tables 𝓤 H 𝓜 𝓡 code.env))
-    (cited 𝓤 H (Fill 𝓤 H (𝓖 .A) (𝓜 .mem) (𝓡 .run)) 𝓜 𝓡 code.env #asking·fill·fill fill-def.routine code.calls-asking·fill·fill (fill-thm.met 𝓤 H 𝓜 𝓖 𝓡))
-    (cited 𝓤 H (Numbers 𝓤 H (𝓖 .A) (𝓜 .mem) (𝓡 .run)) 𝓜 𝓡 code.env #asking·answer·numbers numbers-def.routine code.calls-asking·answer·numbers (numbers-thm.met 𝓤 H 𝓜 𝓖 𝓡))
-    (cited 𝓤 H (Keep 𝓤 H (𝓖 .A) (𝓜 .mem) (𝓡 .run)) 𝓜 𝓡 code.env #vetting·keep·keep-passing keep-passing-def.routine code.calls-vetting·keep·keep-passing (keep-passing-thm.met 𝓤 H 𝓜 𝓖 𝓡))
-    (cited 𝓤 H (Replies 𝓤 H (𝓖 .A) (𝓜 .mem) (𝓡 .run)) 𝓜 𝓡 code.env #asking·answer·put-answers put-answers-def.routine code.calls-asking·answer·put-answers (put-answers-thm.met 𝓤 H 𝓜 𝓖 𝓡)))
+    let W = givenOf 𝓤 H 𝓜 𝓖 in
+    let fill-met = cited 𝓤 H (Fill 𝓤 H (𝓖 .A) (𝓜 .mem) (𝓡 .run)) 𝓜 𝓡 code.env fill-def.name fill-def.routine code.calls-asking·fill·fill (fill-thm.met 𝓤 H 𝓜 𝓖 𝓡) in
+    let numbers-met = cited 𝓤 H (Numbers 𝓤 H (𝓖 .A) (𝓜 .mem) (𝓡 .run)) 𝓜 𝓡 code.env numbers-def.name numbers-def.routine code.calls-asking·answer·numbers (numbers-thm.met 𝓤 H 𝓜 𝓖 𝓡) in
+    let keep-met = cited 𝓤 H (Keep 𝓤 H (𝓖 .A) (𝓜 .mem) (𝓡 .run)) 𝓜 𝓡 code.env keep-passing-def.name keep-passing-def.routine code.calls-vetting·keep·keep-passing (keep-passing-thm.met 𝓤 H 𝓜 𝓖 𝓡) in
+    let reply-met = cited 𝓤 H (Replies 𝓤 H (𝓖 .A) (𝓜 .mem) (𝓡 .run)) 𝓜 𝓡 code.env put-answers-def.name put-answers-def.routine code.calls-asking·answer·put-answers (put-answers-thm.met 𝓤 H 𝓜 𝓖 𝓡) in
+    closes 𝓤 H 𝓜 𝓖 𝓡 code.env #asking·answer·answer code.function (code.unfolded 𝓤 H 𝓜 𝓡) f.ended stayed (goes-none-slice 𝓤 H (𝓖 .A) W 3 (0 ∷ []) tt (plain (λ _. i32)) yes, (goes-none 𝓤 H (𝓖 .A) W 3 (λ _. i32) yes (λ κs x f. refl), (goes-none 𝓤 H (𝓖 .A) W 3 (λ _. i32) yes (λ κs x f. refl), (goes-none 𝓤 H (𝓖 .A) W 3 (λ _. usize) yes (λ κs x f. refl), (goes-slice 𝓤 H (𝓖 .A) W 3 1 tt (plain (λ _. R)), (goes-gave-slice 𝓤 H (𝓖 .A) W 3 2 tt (plain (λ _. u32)), tt))))))
+    (f.clauses 𝓤 H (𝓖 .A) (𝓜 .mem) (𝓡 .run)) (λ κs. (slice-vals, (sint-vals w32, (sint-vals w32, (uint-vals w64, (slice-vals, (slice-vals, tt)))))))
+    (λ κs. (shr-slice-tells (named 0) (κs .0) i32, (sint-tells w32, (sint-tells w32, (uint-tells w64, (mut-slice-tells (named 1) (κs .1 .0) R, (mut-slice-tells (named 2) (κs .1 .1 .0) u32, tt)))))))
+    (λ fm x g are. needs 𝓤 _ _ (λ pre. walk 𝓤 H (𝓖 .A) W (𝓜 .mem) (𝓡 .run) (x .0) (x .1) (x .3 .0) (x .3 .1 .0) (x .3 .1 .1 .0) (x .3 .1 .1 .1 .0) (x .3 .1 .1 .1 .1 .0 .ptr .0) (x .3 .1 .1 .1 .1 .0 .ptr .1) (x .3 .1 .1 .1 .1 .0 .name) (x .3 .1 .1 .1 .1 .0 .now) (x .3 .1 .1 .1 .1 .1 .0)
+    (are .0 .0 .1) (are .1 .0) (are .1 .1 .0) (are .1 .1 .1 .0 .1) (are .1 .1 .1 .1 .0 .0 .1) (are .1 .1 .1 .1 .1 .0 .0 .1) pre _ _ fm fill-met numbers-met keep-met reply-met))

@@ -17,15 +17,15 @@ use base.Logic.{SProp, ent, id⊢}
 use base.Fml.{GName, Fml, ftrue, flft, flent, fat, froom}
 use prog.Memory.{Memory}
 use prog.Routine.{Routine}
-use prog.Wp.{Heap, Calls, Loops, WpFn, Tables}
+use prog.Wp.{Heap, Calls, Loops, WpFn}
 use ghost.Atoms.{Atoms}
 use contract.Monad.{Fun, fact}
 use contract.Lifetimes.{Lfts, Shares}
-use contract.Running.{givenOf, tables, tablesOf}
+use contract.Running.{givenOf}
 use types.Kit.{Given, ‵, raw, given, _⊛_, ⋆, some, later, _$_, _∵_, !, qed, by, move, keep, drop, use0, use1, use2, use3, group, split, split3, join, pick, learn, rewrite, fsplit, fjoin, feqL, suffices, frame, await, done}
 use types.Run.{look, init, store, forget, stop, hop, fld, from, load, lit, addr, of-opd, and-then, no-more, assigns, land, returns, enter, alloc1, alloc0, params1, pass1, pass0, free1, free0}
 use types.Part.{agg, whole, sub, look-in}
-use sound.WpLaws.{FmC, fmOf, WpFn-mono}
+use sound.WpLaws.{FmC}
 use denote.RattleType.{RattleType, owns}
 use denote.Laws.{Is, shows}
 use denote.Array.{Array, array-lawful}
@@ -40,12 +40,12 @@ use denote.Signature.{plain}
 use denote.Steps.{only, owned, peeks, heard, nothing}
 use denote.Struct.Laws as LL
 use denote.Triple.Entry.{onEntry}
-use denote.Triple.Spec.{Meets, tripleOf}
+use denote.Triple.Spec.{tripleOf}
 use denote.Triple.Statement.{Contract, Triple}
 use denote.Triple.Call.{calls-at}
 use denote.Triple.Clauses.{ensured, lasts}
-use denote.Triple.Table.{entered, cited}
-use denote.Triple.Walked.{says, needs, Stays, gave-slice, stay-none-slice, stay-none, walkOf, goes-gave-slice, goes-none-slice, goes-none, Walks, ends-at, walked, walk-meets}
+use denote.Triple.Table.{cited}
+use denote.Triple.Walked.{says, needs, Stays, gave-slice, stay-none-slice, stay-none, walkOf, goes-gave-slice, goes-none-slice, goes-none, ends-at}
 use denote.Exit.{yes}
 use Rattle.words.specs.Word.{IsWord, onGrid}
 use Rattle.grid.specs.Site.{Site, placeOf}
@@ -67,6 +67,7 @@ use Rattle.record.specs.declared.Candidate.{Candidate}
 use Rattle.asking.specs.Records.{candidatesIn}
 use Rattle.asking.specs.Asked.{Askable, Filled}
 use Rattle.record.proofs.Candidate as T
+use Rattle.walks.proofs.Ends.{closes}
 use Rattle.walks.proofs.LentRow.{Whole, laid, counted, lends, ends, shared, freed}
 use Rattle.asking.proofs.Outcome.{points-most, hand-room, filled}
 use Rattle.walks.proofs.WalkSteps.{asks-nothing, three-facts}
@@ -327,31 +328,15 @@ module _ {M : Type 1} (𝓤 : URA M) (H : Heap 𝓤) (A : Atoms 𝓤) (W : Given
         move ! (78 ∷ 79 ∷ []) $ free1 ! $ move ! (76 ∷ 77 ∷ []) $ free1 ! $ move ! (74 ∷ 75 ∷ []) $ free1 ! $ move ! (72 ∷ 73 ∷ []) $ free1 ! $ move ! (70 ∷ 71 ∷ []) $ free1 ! $ move ! (68 ∷ 69 ∷ []) $ free1 ! $ move ! (3 ∷ 67 ∷ []) $ free1 ! $ move ! (2 ∷ 65 ∷ []) $ free1 ! $ move ! (1 ∷ 63 ∷ []) $ free1 ! $ move ! (0 ∷ 61 ∷ []) $ free1 ! $ move ! (58 ∷ 59 ∷ []) $ free1 ! $ move ! (56 ∷ 57 ∷ []) $ free1 ! $ move ! (54 ∷ 55 ∷ []) $ free1 ! $ move ! (52 ∷ 53 ∷ []) $ free1 ! $ move ! (50 ∷ 51 ∷ []) $ free1 ! $ move ! (48 ∷ 49 ∷ []) $ free1 ! $ move ! (46 ∷ 47 ∷ []) $ free1 ! $ move ! (44 ∷ 45 ∷ []) $ free1 ! $ move ! (42 ∷ 43 ∷ []) $ free1 ! $ move ! (40 ∷ 41 ∷ []) $ free1 ! $ move ! (38 ∷ 39 ∷ []) $ free1 ! $ move ! (36 ∷ 37 ∷ []) $ free1 ! $ move ! (34 ∷ 35 ∷ []) $ free1 ! $ move ! (32 ∷ 33 ∷ []) $ free1 ! $ move ! (30 ∷ 31 ∷ []) $ free1 ! $ move ! (28 ∷ 29 ∷ []) $ free1 ! $ move ! (26 ∷ 27 ∷ []) $ free1 ! $ move ! (24 ∷ 25 ∷ []) $ free1 ! $ move ! (22 ∷ 23 ∷ []) $ free1 ! $ move ! (20 ∷ 21 ∷ []) $ free1 ! $ move ! (18 ∷ 19 ∷ []) $ free1 ! $ move ! (16 ∷ 17 ∷ []) $ free1 ! $ move ! (14 ∷ 15 ∷ []) $ free1 ! $ free0 ! $
         keep ! (7 ∷ 2 ∷ 13 ∷ 3 ∷ 5 ∷ []) $ by ! (exits seen (vs .0) long (filled (pre .table) q grid k noted ys (vs .0) handed))))))))))))))))))))))))))))))))))))))))))))))))))))))))))))))))))))))
 
-module _ {M : Type 1} (𝓤 : URA M) (H : Heap 𝓤) (A : Atoms 𝓤) (W : Given 𝓤 H A) (mem : Memory → SProp 𝓤) (run : Routine → Fun 𝓤) where
-  fill-walks : (C : Calls 𝓤 H) (Λ : Loops 𝓤 H) → FmC 𝓤 H (W .laws) C → Triple 𝓤 (C #asking·fill·words) (Words 𝓤 H A mem run) → Triple 𝓤 (C #asking·fill·squares) (Squares 𝓤 H A mem run)
-      → Triple 𝓤 (C #filter·find·find) (Find 𝓤 H A mem run) → Triple 𝓤 (C #asking·hand·hand-over) (HandOver 𝓤 H A mem run) → Walks 𝓤 H A f.ended stayed (WpFn 𝓤 H C Λ code.function) (f.clauses 𝓤 H A mem run)
-  fill-walks C Λ fm known-words known-squares known-find known-hand = walked 𝓤 H A f.ended stayed (f.clauses 𝓤 H A mem run) (WpFn 𝓤 H C Λ code.function)
-      (λ κs. (slice-vals, (sint-vals w32, (sint-vals w32, (uint-vals w64, (slice-vals, tt))))))
-      (λ κs. (shr-slice-tells (named 0) (κs .0) i32, (sint-tells w32, (sint-tells w32, (uint-tells w64, (mut-slice-tells (named 1) (κs .1 .0) R, tt))))))
-      (λ κs qs bounds a g are. needs 𝓤 (Askable (now (a .0)) (record { x = a .1 .0; y = a .1 .1 .0 }) (length (now (a .1 .1 .1 .1 .0)))) _ (λ pre.
-      walk 𝓤 H A W mem run κs qs (a .0) (a .1 .0) (a .1 .1 .0) (a .1 .1 .1 .0) (a .1 .1 .1 .1 .0) (are .0 .0 .1) (are .1 .0) (are .1 .1 .0) (are .1 .1 .1 .0 .1) (are .1 .1 .1 .1 .0 .0 .1) pre C Λ fm known-words known-squares known-find known-hand))
-
-fill-meets : {M : Type 1} (𝓤 : URA M) (H : Heap 𝓤) (A : Atoms 𝓤) → Given 𝓤 H A → (mem : Memory → SProp 𝓤) (run : Routine → Fun 𝓤) (𝓣 : Tables 𝓤 H) → Triple 𝓤 (𝓣 .C #asking·fill·words) (Words 𝓤 H A mem run) → Triple 𝓤 (𝓣 .C #asking·fill·squares) (Squares 𝓤 H A mem run)
-    → Triple 𝓤 (𝓣 .C #filter·find·find) (Find 𝓤 H A mem run) → Triple 𝓤 (𝓣 .C #asking·hand·hand-over) (HandOver 𝓤 H A mem run) → Meets 𝓤 H A f.signature (WpFn 𝓤 H (𝓣 .C) (𝓣 .Λ) code.function) (f.spec 𝓤 H A mem run)
-fill-meets 𝓤 H A W mem run 𝓣 known-words known-squares known-find known-hand =
-    walk-meets 𝓤 H A f.ended stayed W (
-      goes-none-slice 𝓤 H A W 2 (0 ∷ []) tt (plain (λ _. i32)) yes,
-      (goes-none 𝓤 H A W 2 (λ _. i32) yes (λ κs x f. refl), (goes-none 𝓤 H A W 2 (λ _. i32) yes (λ κs x f. refl), (goes-none 𝓤 H A W 2 (λ _. usize) yes (λ κs x f. refl), (goes-gave-slice 𝓤 H A W 2 1 tt (plain (λ _. R)), tt)))),
-    ) (f.clauses 𝓤 H A mem run)
-    (WpFn 𝓤 H (𝓣 .C) (𝓣 .Λ) code.function) (WpFn-mono 𝓤 H (W .laws) 𝓣 code.function) (fill-walks 𝓤 H A W mem run (𝓣 .C) (𝓣 .Λ) (fmOf 𝓤 H (W .laws) 𝓣) known-words known-squares known-find known-hand)
-
 pub fill-spec : {M : Type 1} → stated.statement M
-unfolding code.routine tablesOf
+unfolding code.routine
 fill-spec 𝓤 H 𝓜 𝓖 𝓡 =
-    entered 𝓤 H (tripleOf 𝓤 H (𝓖 .A) f.signature (f.spec 𝓤 H (𝓖 .A) (𝓜 .mem) (𝓡 .run)))
-    (tables 𝓤 H 𝓜 𝓡 code.env .C) (tables 𝓤 H 𝓜 𝓡 code.env .Λ) #asking·fill·fill code.function (code.unfolded 𝓤 H 𝓜 𝓡)
-    (fill-meets 𝓤 H (𝓖 .A) (givenOf 𝓤 H 𝓜 𝓖) (𝓜 .mem) (𝓡 .run) (tablesOf 𝓤 H 𝓜 (tables 𝓤 H 𝓜 𝓡 code.env))
-    (cited 𝓤 H (Words 𝓤 H (𝓖 .A) (𝓜 .mem) (𝓡 .run)) 𝓜 𝓡 code.env #asking·fill·words words-def.routine code.calls-asking·fill·words (words-thm.met 𝓤 H 𝓜 𝓖 𝓡))
-    (cited 𝓤 H (Squares 𝓤 H (𝓖 .A) (𝓜 .mem) (𝓡 .run)) 𝓜 𝓡 code.env #asking·fill·squares squares-def.routine code.calls-asking·fill·squares (squares-thm.met 𝓤 H 𝓜 𝓖 𝓡))
-    (cited 𝓤 H (Find 𝓤 H (𝓖 .A) (𝓜 .mem) (𝓡 .run)) 𝓜 𝓡 code.env #filter·find·find find-def.routine code.calls-filter·find·find (find-thm.met 𝓤 H 𝓜 𝓖 𝓡))
-    (cited 𝓤 H (HandOver 𝓤 H (𝓖 .A) (𝓜 .mem) (𝓡 .run)) 𝓜 𝓡 code.env #asking·hand·hand-over hand-over-def.routine code.calls-asking·hand·hand-over (hand-over-thm.met 𝓤 H 𝓜 𝓖 𝓡)))
+    let W = givenOf 𝓤 H 𝓜 𝓖 in
+    let words-met = cited 𝓤 H (Words 𝓤 H (𝓖 .A) (𝓜 .mem) (𝓡 .run)) 𝓜 𝓡 code.env words-def.name words-def.routine code.calls-asking·fill·words (words-thm.met 𝓤 H 𝓜 𝓖 𝓡) in
+    let squares-met = cited 𝓤 H (Squares 𝓤 H (𝓖 .A) (𝓜 .mem) (𝓡 .run)) 𝓜 𝓡 code.env squares-def.name squares-def.routine code.calls-asking·fill·squares (squares-thm.met 𝓤 H 𝓜 𝓖 𝓡) in
+    let find-met = cited 𝓤 H (Find 𝓤 H (𝓖 .A) (𝓜 .mem) (𝓡 .run)) 𝓜 𝓡 code.env find-def.name find-def.routine code.calls-filter·find·find (find-thm.met 𝓤 H 𝓜 𝓖 𝓡) in
+    let hand-met = cited 𝓤 H (HandOver 𝓤 H (𝓖 .A) (𝓜 .mem) (𝓡 .run)) 𝓜 𝓡 code.env hand-over-def.name hand-over-def.routine code.calls-asking·hand·hand-over (hand-over-thm.met 𝓤 H 𝓜 𝓖 𝓡) in
+    closes 𝓤 H 𝓜 𝓖 𝓡 code.env #asking·fill·fill code.function (code.unfolded 𝓤 H 𝓜 𝓡) f.ended stayed (goes-none-slice 𝓤 H (𝓖 .A) W 2 (0 ∷ []) tt (plain (λ _. i32)) yes, (goes-none 𝓤 H (𝓖 .A) W 2 (λ _. i32) yes (λ κs x f. refl), (goes-none 𝓤 H (𝓖 .A) W 2 (λ _. i32) yes (λ κs x f. refl), (goes-none 𝓤 H (𝓖 .A) W 2 (λ _. usize) yes (λ κs x f. refl), (goes-gave-slice 𝓤 H (𝓖 .A) W 2 1 tt (plain (λ _. R)), tt)))))
+    (f.clauses 𝓤 H (𝓖 .A) (𝓜 .mem) (𝓡 .run)) (λ κs. (slice-vals, (sint-vals w32, (sint-vals w32, (uint-vals w64, (slice-vals, tt))))))
+    (λ κs. (shr-slice-tells (named 0) (κs .0) i32, (sint-tells w32, (sint-tells w32, (uint-tells w64, (mut-slice-tells (named 1) (κs .1 .0) R, tt))))))
+    (λ fm x g are. needs 𝓤 _ _ (λ pre. walk 𝓤 H (𝓖 .A) W (𝓜 .mem) (𝓡 .run) (x .0) (x .1) (x .3 .0) (x .3 .1 .0) (x .3 .1 .1 .0) (x .3 .1 .1 .1 .0) (x .3 .1 .1 .1 .1 .0) (are .0 .0 .1) (are .1 .0) (are .1 .1 .0) (are .1 .1 .1 .0 .1) (are .1 .1 .1 .1 .0 .0 .1) pre _ _ fm words-met squares-met find-met hand-met))
