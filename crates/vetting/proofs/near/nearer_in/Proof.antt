@@ -25,7 +25,7 @@ use contract.Monad.{Fun, fact}
 use contract.Running.{givenOf, tables, tablesOf}
 use types.Kit.{Given, Item, ‵, raw, runs, anyQ, atRet, Sq, _⊛_, ⋆, some, later, _$_, _∵_, !, qed, by, move, keep, drop, use1, use2, split, join, pick, rewrite, fsplit, fjoin, suffices, frame, await, done}
 use types.Run.{look, init, store, forget, stop, from, load, lit, of-opd, bin, and-then, no-more, assigns, assigns-last, land, first, skips, jumps, blocks, branches, returns, enter, alloc1, alloc0, params1, pass1, pass0, free1, free0, exec, Below, again, loops}
-use sound.WpLaws.{FmC, fmOf, WpFn-mono}
+use sound.WpLaws.{FmC}
 use denote.RattleType.{RattleType, owns}
 use denote.Laws.{Is, shows}
 use denote.Memory.{pointee}
@@ -37,12 +37,12 @@ use denote.Signature.{plain}
 use denote.Steps.{only, owned, peeks, heard, nothing}
 use denote.Struct.Laws as LL
 use denote.Triple.Entry.{onEntry}
-use denote.Triple.Spec.{Meets, tripleOf}
+use denote.Triple.Spec.{tripleOf}
 use denote.Triple.Statement.{Contract, Triple}
 use denote.Triple.Call.{calls-at}
 use denote.Triple.Clauses.{ensured, lasts}
-use denote.Triple.Table.{entered, cited}
-use denote.Triple.Walked.{says, needs, Stays, stay-none-slice, stay-none, walkOf, goes-none-slice, goes-none, Walks, ends-at, walked, walk-meets}
+use denote.Triple.Table.{cited}
+use denote.Triple.Walked.{says, needs, Stays, stay-none-slice, stay-none, walkOf, goes-none-slice, goes-none, ends-at}
 use denote.Exit.{yes}
 use Rattle.order.specs.Lists.{one}
 use Rattle.table.specs.Stations.{isPoint}
@@ -51,6 +51,7 @@ use Rattle.record.specs.Blank.{none}
 use Rattle.vetting.specs.Tested.{entryOf, nearerAs, nearerAmong, Readable}
 use Rattle.record.proofs.Candidate as T
 use Rattle.record.proofs.Candidate.Laws as T′
+use Rattle.walks.proofs.Ends.{closes}
 use Rattle.vetting.proofs.Nearby.{Counted, counted-none, counted-next}
 use Rattle.record.proofs.record_at as record-at
 use Rattle.record.proofs.record_at.Symbol as record-at-def
@@ -253,25 +254,13 @@ module _ {M : Type 1} (𝓤 : URA M) (H : Heap 𝓤) (A : Atoms 𝓤) (W : Given
       assigns ! (of-opd ! (lit ! tt)) (from ! (stop !)) (init ! 6 refl (tt, record { fits = lit< tt })) $
       first ! $ blocks ! $ loops ! 𝓣 Nearer Nearer-wf (At 𝓣 fm known-one known-record l₀ l₁ l₂ l₃ l₄ l₅ l₆ l₇ l₈) (turns 𝓣 fm known-one known-record l₀ l₁ l₂ l₃ l₄ l₅ l₆ l₇ l₈) (0, zero-le, 0, counted-none cs c))))))))))
 
-module _ {M : Type 1} (𝓤 : URA M) (H : Heap 𝓤) (A : Atoms 𝓤) (W : Given 𝓤 H A) (mem : Memory → SProp 𝓤) (run : Routine → Fun 𝓤) where
-  nearer-in-walks : (𝓣 : Tables 𝓤 H) → FmC 𝓤 H (W .laws) (𝓣 .C) → Triple 𝓤 (𝓣 .C #vetting·near·nearer-one) (NearerOne 𝓤 H A mem run) → Triple 𝓤 (𝓣 .C #record·record-at) (RecordAt 𝓤 H A mem run)
-      → Walks 𝓤 H A f.ended stayed (WpFn 𝓤 H (𝓣 .C) (𝓣 .Λ) code.function) (f.clauses 𝓤 H A mem run)
-  nearer-in-walks 𝓣 fm known-one known-record = walked 𝓤 H A f.ended stayed (f.clauses 𝓤 H A mem run) (WpFn 𝓤 H (𝓣 .C) (𝓣 .Λ) code.function)
-      (λ κs. (slice-vals, (uint-vals w64, (vals, tt)))) (λ κs. (shr-slice-tells (named 0) (κs .0) R, (uint-tells w64, (LL.tells T.the-type T′.the-laws, tt))))
-      (λ κs qs bounds a g are. needs 𝓤 (Readable (now (a .0)) (a .1 .0) × (isPoint (entryOf (a .1 .1 .0)) ≡ true)) _ (λ pre.
-      walk 𝓤 H A W mem run (κs .0) (qs .0) (a .0) (a .1 .0) (a .1 .1 .0) (are .0 .0 .1) (are .1 .0 .1) (are .1 .1 .0) pre 𝓣 fm known-one known-record))
-
-nearer-in-meets : {M : Type 1} (𝓤 : URA M) (H : Heap 𝓤) (A : Atoms 𝓤) → Given 𝓤 H A → (mem : Memory → SProp 𝓤) (run : Routine → Fun 𝓤) (𝓣 : Tables 𝓤 H) → Triple 𝓤 (𝓣 .C #vetting·near·nearer-one) (NearerOne 𝓤 H A mem run)
-    → Triple 𝓤 (𝓣 .C #record·record-at) (RecordAt 𝓤 H A mem run) → Meets 𝓤 H A f.signature (WpFn 𝓤 H (𝓣 .C) (𝓣 .Λ) code.function) (f.spec 𝓤 H A mem run)
-nearer-in-meets 𝓤 H A W mem run 𝓣 known-one known-record =
-    walk-meets 𝓤 H A f.ended stayed W (goes-none-slice 𝓤 H A W 1 (0 ∷ []) tt (plain (λ _. R)) yes, (goes-none 𝓤 H A W 1 (λ _. usize) yes (λ κs x f. refl), (goes-none 𝓤 H A W 1 (λ _. R) yes (λ κs x f. refl), tt))) (f.clauses 𝓤 H A mem run)
-    (WpFn 𝓤 H (𝓣 .C) (𝓣 .Λ) code.function) (WpFn-mono 𝓤 H (W .laws) 𝓣 code.function) (nearer-in-walks 𝓤 H A W mem run 𝓣 (fmOf 𝓤 H (W .laws) 𝓣) known-one known-record)
-
 pub nearer-in-spec : {M : Type 1} → stated.statement M
 unfolding code.routine tablesOf
 nearer-in-spec 𝓤 H 𝓜 𝓖 𝓡 =
-    entered 𝓤 H (tripleOf 𝓤 H (𝓖 .A) f.signature (f.spec 𝓤 H (𝓖 .A) (𝓜 .mem) (𝓡 .run)))
-    (tables 𝓤 H 𝓜 𝓡 code.env .C) (tables 𝓤 H 𝓜 𝓡 code.env .Λ) #vetting·near·nearer-in code.function (code.unfolded 𝓤 H 𝓜 𝓡)
-    (nearer-in-meets 𝓤 H (𝓖 .A) (givenOf 𝓤 H 𝓜 𝓖) (𝓜 .mem) (𝓡 .run) (tablesOf 𝓤 H 𝓜 (tables 𝓤 H 𝓜 𝓡 code.env))
-    (cited 𝓤 H (NearerOne 𝓤 H (𝓖 .A) (𝓜 .mem) (𝓡 .run)) 𝓜 𝓡 code.env #vetting·near·nearer-one nearer-one-def.routine code.calls-vetting·near·nearer-one (nearer-one-thm.met 𝓤 H 𝓜 𝓖 𝓡))
-    (cited 𝓤 H (RecordAt 𝓤 H (𝓖 .A) (𝓜 .mem) (𝓡 .run)) 𝓜 𝓡 code.env #record·record-at record-at-def.routine code.calls-record·record-at (record-at-thm.met 𝓤 H 𝓜 𝓖 𝓡)))
+    let W = givenOf 𝓤 H 𝓜 𝓖 in
+    let one-met = cited 𝓤 H (NearerOne 𝓤 H (𝓖 .A) (𝓜 .mem) (𝓡 .run)) 𝓜 𝓡 code.env nearer-one-def.name nearer-one-def.routine code.calls-vetting·near·nearer-one (nearer-one-thm.met 𝓤 H 𝓜 𝓖 𝓡) in
+    let record-met = cited 𝓤 H (RecordAt 𝓤 H (𝓖 .A) (𝓜 .mem) (𝓡 .run)) 𝓜 𝓡 code.env record-at-def.name record-at-def.routine code.calls-record·record-at (record-at-thm.met 𝓤 H 𝓜 𝓖 𝓡) in
+    closes 𝓤 H 𝓜 𝓖 𝓡 code.env #vetting·near·nearer-in code.function (code.unfolded 𝓤 H 𝓜 𝓡) f.ended stayed (goes-none-slice 𝓤 H (𝓖 .A) W 1 (0 ∷ []) tt (plain (λ _. R)) yes, (goes-none 𝓤 H (𝓖 .A) W 1 (λ _. usize) yes (λ κs x f. refl), (goes-none 𝓤 H (𝓖 .A) W 1 (λ _. R) yes (λ κs x f. refl), tt)))
+    (f.clauses 𝓤 H (𝓖 .A) (𝓜 .mem) (𝓡 .run)) (λ κs. (slice-vals, (uint-vals w64, (vals, tt))))
+    (λ κs. (shr-slice-tells (named 0) (κs .0) R, (uint-tells w64, (LL.tells T.the-type T′.the-laws, tt))))
+    (λ fm x g are. needs 𝓤 _ _ (λ pre. walk 𝓤 H (𝓖 .A) W (𝓜 .mem) (𝓡 .run) (x .0 .0) (x .1 .0) (x .3 .0) (x .3 .1 .0) (x .3 .1 .1 .0) (are .0 .0 .1) (are .1 .0 .1) (are .1 .1 .0) pre (tablesOf 𝓤 H 𝓜 (tables 𝓤 H 𝓜 𝓡 code.env)) fm one-met record-met))
