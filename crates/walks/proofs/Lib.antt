@@ -1,5 +1,6 @@
 pub mod Again
 pub mod Ends
+pub mod Lends
 pub mod LentRow
 pub mod Reshared
 pub mod WalkSteps

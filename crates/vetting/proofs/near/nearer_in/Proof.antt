@@ -21,26 +21,23 @@ use prog.Memory.{Memory}
 use prog.Routine.{Routine}
 use prog.Wp.{Heap, Out, Env, afterSeq, afterBlock, afterTurn, Calls, Loops, Wp, atReturn, WpFn, Tables}
 use ghost.Atoms.{Atoms, sem}
-use contract.Monad.{Fun, fact}
+use contract.Monad.{Fun}
 use contract.Running.{givenOf, tables, tablesOf}
-use types.Kit.{Given, Item, ‵, raw, runs, anyQ, atRet, Sq, _⊛_, ⋆, some, later, _$_, _∵_, !, qed, by, move, keep, drop, use1, use2, split, join, pick, rewrite, fsplit, fjoin, suffices, frame, await, done}
+use types.Kit.{Given, Item, ‵, raw, runs, anyQ, atRet, Sq, _⊛_, ⋆, _$_, _∵_, !, qed, by, move, keep, use1, use2, split, join, rewrite, fsplit, fjoin, suffices, frame, done}
 use types.Run.{look, init, store, forget, stop, from, load, lit, of-opd, bin, and-then, no-more, assigns, assigns-last, land, first, skips, jumps, blocks, branches, returns, enter, alloc1, alloc0, params1, pass1, pass0, free1, free0, exec, Below, again, loops}
 use sound.WpLaws.{FmC}
 use denote.RattleType.{RattleType, owns}
-use denote.Laws.{Is, shows}
+use denote.Laws.{Is}
 use denote.Memory.{pointee}
 use denote.Plain.{uint-makes, uint-vals, uint-tells, uint-lawful}
 use denote.Builtin.{usize}
 use denote.Ref.{RefT, now}
 use denote.Slice.{sliceTy, sliceVal, slice-vals, shr-slice-tells, ShrSlice, Room, shr-slice-copy}
 use denote.Signature.{plain}
-use denote.Steps.{only, owned, peeks, heard, nothing}
+use denote.Steps.{only, owned, nothing}
 use denote.Struct.Laws as LL
 use denote.Triple.Entry.{onEntry}
-use denote.Triple.Spec.{tripleOf}
 use denote.Triple.Statement.{Contract, Triple}
-use denote.Triple.Call.{calls-at}
-use denote.Triple.Clauses.{ensured, lasts}
 use denote.Triple.Table.{cited}
 use denote.Triple.Walked.{says, needs, Stays, stay-none-slice, stay-none, walkOf, goes-none-slice, goes-none, ends-at}
 use denote.Exit.{yes}
@@ -51,7 +48,7 @@ use Rattle.record.specs.Blank.{none}
 use Rattle.vetting.specs.Tested.{entryOf, nearerAs, nearerAmong, Readable}
 use Rattle.record.proofs.Candidate as T
 use Rattle.record.proofs.Candidate.Laws as T′
-use Rattle.walks.proofs.Ends.{closes}
+use Rattle.walks.proofs.Ends.{Called, leaves-said, closes}
 use Rattle.vetting.proofs.Nearby.{Counted, counted-none, counted-next}
 use Rattle.record.proofs.record_at as record-at
 use Rattle.record.proofs.record_at.Symbol as record-at-def
@@ -91,11 +88,12 @@ abbrev vals : Candidate → List Val
 vals = LL.vals T.the-type T′.the-laws
 
 -- the contracts that the proof cites
-abbrev RecordAt : {M : Type 1} (𝓤 : URA M) (H : Heap 𝓤) (A : Atoms 𝓤) (mem : Memory → SProp 𝓤) (run : Routine → Fun 𝓤) → Contract 𝓤
-RecordAt 𝓤 H A mem run = tripleOf 𝓤 H A record-at.signature (record-at.spec 𝓤 H A mem run)
+module _ {M : Type 1} (𝓤 : URA M) (H : Heap 𝓤) (A : Atoms 𝓤) (mem : Memory → SProp 𝓤) (run : Routine → Fun 𝓤) where
+  abbrev RecordAt : Contract 𝓤
+  RecordAt = Called 𝓤 H A record-at.ended (record-at.clauses 𝓤 H A mem run)
 
-abbrev NearerOne : {M : Type 1} (𝓤 : URA M) (H : Heap 𝓤) (A : Atoms 𝓤) (mem : Memory → SProp 𝓤) (run : Routine → Fun 𝓤) → Contract 𝓤
-NearerOne 𝓤 H A mem run = tripleOf 𝓤 H A nearer-one.signature (nearer-one.spec 𝓤 H A mem run)
+  abbrev NearerOne : Contract 𝓤
+  NearerOne = Called 𝓤 H A nearer-one.ended (nearer-one.clauses 𝓤 H A mem run)
 
 module _ {M : Type 1} (𝓤 : URA M) (H : Heap 𝓤) (A : Atoms 𝓤) (W : Given 𝓤 H A) (mem : Memory → SProp 𝓤) (run : Routine → Fun 𝓤) (κ : Lft) (q : Share)
     (lr : RefT (List Candidate)) (m : ℕ) (c : Candidate) (rl : Room R (length (now lr))) (gm : m < 2 ^ 64) (gc : Is R c (T′.lowered c ∷ []))
@@ -198,23 +196,17 @@ module _ {M : Type 1} (𝓤 : URA M) (H : Heap 𝓤) (A : Atoms 𝓤) (W : Given
         (λ less. skips ! $ exec ! C Λ En more (anyQ (Turned i)) $
         -- record i is read back: the list is passed on as a copy
         move ! (19 ∷ []) $ use1 W (‵ Listed ⊛ ‵ Listed) (shr-slice-copy 𝓤 H A W (named 0) κ R .twice lr (s ∷ [])) $ split ! $ move ! (20 ∷ 0 ∷ []) $ use2 W (raw (RecordAt 𝓤 H A mem run .pre (at-record (i .0)))) (goes-record (i .0) (within less)) $
-        calls-at ! fm (RecordAt 𝓤 H A mem run) known-record (at-record (i .0)) (and-then ! (load ! (from ! (stop !)) (look ! 16 refl)) (and-then ! (load ! (from ! (stop !)) (look ! 8 refl)) (no-more !))) (λ w.
-        use1 W (later (some (λ (d : Candidate). ((‵ (flft κ q) ⊛ ‵ ftrue) ⊛ ‵ (R .own d (w ∷ []))) ⊛ raw (ensured 𝓤 H A record-at.ended (record-at.clauses 𝓤 H A mem run) (κ, tt) (record-args (i .0)) tt d)))) (id⊢ 𝓤 _) $ await ! tt $ pick ! (λ d. split ! $ move ! (1 ∷ []) $
-        use1 W (some (λ (ws : Unit {0} × (Unit {0} × Unit {0})). ‵ (lasts record-at.ended (κ, tt) (record-args (i .0)) ws) ⊛ raw (fact 𝓤 (d ≡ getD cs (i .0) none)))) (id⊢ 𝓤 _) $ pick ! (λ ws. split ! $ drop ! $ heard ! (d ≡ getD cs (i .0) none) (λ e.
-        split ! $ split ! $ move ! (2 ∷ []) $ peeks ! R (Is R) (shows 𝓤 H A R) d (w ∷ []) (λ is.
-        land ! (from ! (stop !)) (init ! 8 refl (LL.lawful T.the-type T′.the-laws 𝓤 H A W .typed d _ is .0)) $
+        leaves-said ! fm record-at.ended (record-at.clauses 𝓤 H A mem run) known-record (at-record (i .0)) (λ d ws. d ≡ getD cs (i .0) none) (λ d ws. id⊢ 𝓤 _) (and-then ! (load ! (from ! (stop !)) (look ! 16 refl)) (and-then ! (load ! (from ! (stop !)) (look ! 8 refl)) (no-more !))) (λ w d ws e is.
+        land ! (from ! (stop !)) (init ! 7 refl (LL.lawful T.the-type T′.the-laws 𝓤 H A W .typed d _ is .0)) $
         -- it is compared with c
         use1 W (raw (NearerOne 𝓤 H A mem run .pre (to-one d w))) (goes-one (i .0) d w (within less) e) $
-        calls-at ! fm (NearerOne 𝓤 H A mem run) known-one (to-one d w) (and-then ! (load ! (from ! (stop !)) (look ! 8 refl)) (and-then ! (load ! (from ! (stop !)) (look ! 14 refl)) (no-more !))) (λ u.
-        use1 W (later (some (λ (r : ℕ). (‵ ftrue ⊛ ‵ (usize .own r (u ∷ []))) ⊛ raw (ensured 𝓤 H A nearer-one.ended (nearer-one.clauses 𝓤 H A mem run) tt (one-args d) tt r)))) (id⊢ 𝓤 _) $ await ! tt $ pick ! (λ r. split ! $ move ! (1 ∷ []) $
-        use1 W (some (λ (ws : Unit {0} × (Unit {0} × Unit {0})). ‵ (lasts nearer-one.ended tt (one-args d) ws) ⊛ raw (fact 𝓤 (r ≡ one (nearerAs c d))))) (id⊢ 𝓤 _) $ pick ! (λ ws. split ! $ drop ! $ heard ! (r ≡ one (nearerAs c d)) (λ g.
-        split ! $ move ! (1 ∷ []) $ peeks ! usize (Is usize) (shows 𝓤 H A usize) r (u ∷ []) (λ is′.
-        land ! (from ! (stop !)) (init ! 5 refl (uint-lawful 𝓤 H A W w64 .typed r _ is′ .0)) $
-        rewrite ! 5 (λ (v : Val). ‵ (fat fullShare word l₈ 0 v)) (ap only (is′ .0)) refl $
-        assigns ! (bin ! (load ! (from ! (stop !)) (look ! 13 refl)) (load ! (from ! (stop !)) (look ! 5 refl)) (record { fits = few (next less d r e g) })) (from ! (stop !)) (store ! 13 refl (tt, record { fits = few (next less d r e g) })) $
-        assigns-last ! (bin ! (load ! (from ! (stop !)) (look ! 11 refl)) (lit ! tt) (record { fits = fits-next less })) (from ! (stop !)) (store ! 11 refl (tt, record { fits = fits-next less })) $
-        forget ! 5 refl $ forget ! 7 refl $ forget ! 9 refl $
-        keep ! (5 ∷ 6 ∷ 7 ∷ 8 ∷ 9 ∷ 10 ∷ 11 ∷ 12 ∷ 13 ∷ 14 ∷ 15 ∷ 16 ∷ 17 ∷ 18 ∷ 19 ∷ 20 ∷ 21 ∷ 22 ∷ 2 ∷ 4 ∷ []) $ again ! Nearer At i (next less d r e g) (add-one-dec m (i .0) (within less)))))))))))))
+        leaves-said ! fm nearer-one.ended (nearer-one.clauses 𝓤 H A mem run) known-one (to-one d w) (λ r ws. r ≡ one (nearerAs c d)) (λ r ws. id⊢ 𝓤 _) (and-then ! (load ! (from ! (stop !)) (look ! 7 refl)) (and-then ! (load ! (from ! (stop !)) (look ! 13 refl)) (no-more !))) (λ u r ws g is′.
+        land ! (from ! (stop !)) (init ! 3 refl (uint-lawful 𝓤 H A W w64 .typed r _ is′ .0)) $
+        rewrite ! 3 (λ (v : Val). ‵ (fat fullShare word l₈ 0 v)) (ap only (is′ .0)) refl $
+        assigns ! (bin ! (load ! (from ! (stop !)) (look ! 11 refl)) (load ! (from ! (stop !)) (look ! 3 refl)) (record { fits = few (next less d r e g) })) (from ! (stop !)) (store ! 11 refl (tt, record { fits = few (next less d r e g) })) $
+        assigns-last ! (bin ! (load ! (from ! (stop !)) (look ! 9 refl)) (lit ! tt) (record { fits = fits-next less })) (from ! (stop !)) (store ! 9 refl (tt, record { fits = fits-next less })) $
+        forget ! 3 refl $ forget ! 5 refl $ forget ! 7 refl $
+        keep ! (3 ∷ 4 ∷ 5 ∷ 6 ∷ 7 ∷ 8 ∷ 9 ∷ 10 ∷ 11 ∷ 12 ∷ 13 ∷ 14 ∷ 15 ∷ 16 ∷ 17 ∷ 18 ∷ 19 ∷ 20 ∷ 1 ∷ 2 ∷ []) $ again ! Nearer At i (next less d r e g) (add-one-dec m (i .0) (within less)))))
         (λ over. jumps ! $ exec ! C Λ En mir′.t-4 (atRet En Post) $
         assigns ! (of-opd ! (load ! (from ! (stop !)) (look ! 8 refl))) (from ! (stop !)) (init ! 16 refl (tt, record { fits = few i })) $
         returns ! (look ! 16 refl) $ forget ! 2 refl $ forget ! 6 refl $ forget ! 8 refl $ forget ! 10 refl $ forget ! 12 refl $ forget ! 14 refl $ forget ! 16 refl $
