@@ -22,29 +22,25 @@ use prog.Memory.{Memory}
 use prog.Routine.{Routine}
 use prog.Wp.{Heap, Out, Env, afterSeq, afterBlock, afterTurn, Calls, Loops, Wp, atReturn, WpFn, Tables}
 use ghost.Atoms.{Atoms, sem}
-use contract.Monad.{Fun, fact}
+use contract.Monad.{Fun}
 use contract.Lifetimes.{Lfts, Shares}
 use contract.Running.{givenOf, tables, tablesOf}
-use types.Kit.{Given, Item, ‵, raw, runs, anyQ, atRet, Sq, _⊛_, ⋆, some, later, _$_, _∵_, !, qed, by, move, keep, drop, use1, use2, use3, group, split, join, pick, rewrite, fsplit, fjoin, feqL, suffices, frame, await, done}
+use types.Kit.{Given, Item, ‵, raw, runs, anyQ, atRet, Sq, _⊛_, ⋆, _$_, _∵_, !, qed, by, move, keep, drop, use1, use2, use3, group, split, join, rewrite, fsplit, fjoin, suffices, frame, done}
 use types.Run.{look, init, store, forget, stop, hop, fld, from, load, lit, addr, of-opd, bin, and-then, no-more, assigns, assigns-last, land, first, skips, jumps, blocks, branches, returns, enter, alloc1, alloc0, params1, pass1, pass0, free1, free0, exec, Below, again, loops}
 use types.Part.{agg, whole, sub, look-in}
-use types.Tokens.{lft-new, lft-end}
 use sound.WpLaws.{FmC}
 use denote.RattleType.{RattleType, owns}
-use denote.Laws.{Is, shows}
+use denote.Laws.{Is}
 use denote.Memory.{pointee}
 use denote.Plain.{uint-makes, uint-vals, uint-tells, uint-lawful}
 use denote.Builtin.{usize, u32, i32}
 use denote.Ref.{RefT, now}
 use denote.Slice.{sliceTy, sliceVal, slice-vals, mut-slice-tells, shr-slice-tells, MutSlice, ShrSlice, Room, shr-slice-copy}
 use denote.Signature.{plain}
-use denote.Steps.{only, owned, peeks, heard, nothing}
+use denote.Steps.{only, owned, nothing}
 use denote.Struct.Laws as LL
 use denote.Triple.Entry.{onEntry}
-use denote.Triple.Spec.{tripleOf}
 use denote.Triple.Statement.{Contract, Triple}
-use denote.Triple.Call.{calls-at}
-use denote.Triple.Clauses.{ensured, lasts}
 use denote.Triple.Table.{cited}
 use denote.Triple.Walked.{says, needs, Stays, stay-slice, stay-none-slice, stay-none, walkOf, goes-slice, goes-none-slice, goes-none, ends-at}
 use denote.Exit.{yes}
@@ -56,8 +52,8 @@ use Rattle.record.specs.Blank.{none}
 use Rattle.vetting.specs.Tested.{entryOf, passesAs, nearerAmong, numbersPassing, Keepable}
 use Rattle.record.proofs.Candidate as T
 use Rattle.record.proofs.Candidate.Laws as T′
-use Rattle.walks.proofs.Ends.{closes}
-use Rattle.walks.proofs.Again.{LentAgain, lends-again, comes-back}
+use Rattle.walks.proofs.Ends.{Called, leaves-said, closes}
+use Rattle.walks.proofs.Lends.{relends, relent}
 use Rattle.vetting.proofs.Passed.{Kept, kept-none, kept-next}
 use Rattle.record.proofs.record_at as record-at
 use Rattle.record.proofs.record_at.Symbol as record-at-def
@@ -109,14 +105,15 @@ abbrev stayed : Stays (f.ended .signature .params) (f.ended .kept)
 stayed = (stay-none-slice (0 ∷ []) tt (plain (λ _. i32)) yes, (stay-none-slice (1 ∷ []) tt (plain (λ _. R)) yes, (stay-none (λ _. usize) yes, (stay-none (λ _. usize) yes, (stay-slice (2 ∷ []) tt (plain (λ _. u32)), tt)))))
 
 -- the contracts that the proof cites
-abbrev RecordAt : {M : Type 1} (𝓤 : URA M) (H : Heap 𝓤) (A : Atoms 𝓤) (mem : Memory → SProp 𝓤) (run : Routine → Fun 𝓤) → Contract 𝓤
-RecordAt 𝓤 H A mem run = tripleOf 𝓤 H A record-at.signature (record-at.spec 𝓤 H A mem run)
+module _ {M : Type 1} (𝓤 : URA M) (H : Heap 𝓤) (A : Atoms 𝓤) (mem : Memory → SProp 𝓤) (run : Routine → Fun 𝓤) where
+  abbrev RecordAt : Contract 𝓤
+  RecordAt = Called 𝓤 H A record-at.ended (record-at.clauses 𝓤 H A mem run)
 
-abbrev NearerIn : {M : Type 1} (𝓤 : URA M) (H : Heap 𝓤) (A : Atoms 𝓤) (mem : Memory → SProp 𝓤) (run : Routine → Fun 𝓤) → Contract 𝓤
-NearerIn 𝓤 H A mem run = tripleOf 𝓤 H A nearer-in.signature (nearer-in.spec 𝓤 H A mem run)
+  abbrev NearerIn : Contract 𝓤
+  NearerIn = Called 𝓤 H A nearer-in.ended (nearer-in.clauses 𝓤 H A mem run)
 
-abbrev Noted : {M : Type 1} (𝓤 : URA M) (H : Heap 𝓤) (A : Atoms 𝓤) (mem : Memory → SProp 𝓤) (run : Routine → Fun 𝓤) → Contract 𝓤
-Noted 𝓤 H A mem run = tripleOf 𝓤 H A noted.signature (noted.spec 𝓤 H A mem run)
+  abbrev Noted : Contract 𝓤
+  Noted = Called 𝓤 H A noted.ended (noted.clauses 𝓤 H A mem run)
 
 module _ {M : Type 1} (𝓤 : URA M) (H : Heap 𝓤) (A : Atoms 𝓤) (W : Given 𝓤 H A) (mem : Memory → SProp 𝓤) (run : Routine → Fun 𝓤) (κs : Lfts 3) (qs : Shares 3)
     (tr : RefT (List ℤ)) (lr : RefT (List Candidate)) (m k : ℕ) (b o : ℕ) (γ : GName) (ys : List ℕ)
@@ -275,38 +272,28 @@ module _ {M : Type 1} (𝓤 : URA M) (H : Heap 𝓤) (A : Atoms 𝓤) (W : Given
         (λ less. skips ! $ exec ! C Λ En more (anyQ (Turned i)) $
         -- record i is read back: the list is passed on as a copy
         move ! (31 ∷ []) $ use1 W (‵ Listed ⊛ ‵ Listed) (shr-slice-copy 𝓤 H A W (named 1) (κs .1 .0) R .twice lr (s₂ ∷ [])) $ split ! $ move ! (31 ∷ 0 ∷ []) $ use2 W (raw (RecordAt 𝓤 H A mem run .pre (at-record (i .0)))) (goes-record (i .0) (within less)) $
-        calls-at ! fm (RecordAt 𝓤 H A mem run) known-record (at-record (i .0)) (and-then ! (load ! (from ! (stop !)) (look ! 22 refl)) (and-then ! (load ! (from ! (stop !)) (look ! 12 refl)) (no-more !))) (λ w.
-        use1 W (later (some (λ (c : Candidate). ((‵ (flft (κs .1 .0) (qs .1 .0)) ⊛ ‵ ftrue) ⊛ ‵ (R .own c (w ∷ []))) ⊛ raw (ensured 𝓤 H A record-at.ended (record-at.clauses 𝓤 H A mem run) (κs .1 .0, tt) (record-args (i .0)) tt c)))) (id⊢ 𝓤 _) $ await ! tt $ pick ! (λ c. split ! $ move ! (1 ∷ []) $
-        use1 W (some (λ (ws : Unit {0} × (Unit {0} × Unit {0})). ‵ (lasts record-at.ended (κs .1 .0, tt) (record-args (i .0)) ws) ⊛ raw (fact 𝓤 (c ≡ getD cs (i .0) none)))) (id⊢ 𝓤 _) $ pick ! (λ ws. split ! $ drop ! $ heard ! (c ≡ getD cs (i .0) none) (λ e.
-        split ! $ split ! $ move ! (2 ∷ []) $ peeks ! R (Is R) (shows 𝓤 H A R) c (w ∷ []) (λ is.
-        land ! (from ! (stop !)) (init ! 12 refl (LL.lawful T.the-type T′.the-laws 𝓤 H A W .typed c _ is .0)) $
+        leaves-said ! fm record-at.ended (record-at.clauses 𝓤 H A mem run) known-record (at-record (i .0)) (λ c ls. c ≡ getD cs (i .0) none) (λ c ls. id⊢ 𝓤 _) (and-then ! (load ! (from ! (stop !)) (look ! 22 refl)) (and-then ! (load ! (from ! (stop !)) (look ! 12 refl)) (no-more !))) (λ w c ls e is.
+        land ! (from ! (stop !)) (init ! 11 refl (LL.lawful T.the-type T′.the-laws 𝓤 H A W .typed c _ is .0)) $
         -- those that are nearer to it are counted: the list is passed on as a copy, and c is made again of what it is
-        move ! (3 ∷ []) $ use1 W (‵ Listed ⊛ ‵ Listed) (shr-slice-copy 𝓤 H A W (named 1) (κs .1 .0) R .twice lr (s₂ ∷ [])) $ split ! $ move ! (3 ∷ 0 ∷ 2 ∷ []) $ use3 W (raw (NearerIn 𝓤 H A mem run .pre (to-near c w))) (goes-near (i .0) c w (within less) e) $
-        calls-at ! fm (NearerIn 𝓤 H A mem run) known-near (to-near c w) (and-then ! (load ! (from ! (stop !)) (look ! 23 refl)) (and-then ! (load ! (from ! (stop !)) (look ! 21 refl)) (and-then ! (load ! (from ! (stop !)) (look ! 11 refl)) (no-more !)))) (λ v.
-        use1 W (later (some (λ (near : ℕ). ((‵ (flft (κs .1 .0) (qs .1 .0)) ⊛ ‵ ftrue) ⊛ ‵ (usize .own near (v ∷ []))) ⊛ raw (ensured 𝓤 H A nearer-in.ended (nearer-in.clauses 𝓤 H A mem run) (κs .1 .0, tt) (near-args c) tt near)))) (id⊢ 𝓤 _) $ await ! tt $ pick ! (λ near. split ! $ move ! (1 ∷ []) $
-        use1 W (some (λ (vs : Unit {0} × (Unit {0} × (Unit {0} × Unit {0}))). ‵ (lasts nearer-in.ended (κs .1 .0, tt) (near-args c) vs) ⊛ raw (fact 𝓤 (near ≡ nearerAmong (take m cs) c)))) (id⊢ 𝓤 _) $ pick ! (λ vs. split ! $ drop ! $ heard ! (near ≡ nearerAmong (take m cs) c) (λ en.
-        split ! $ split ! $ move ! (2 ∷ []) $ peeks ! usize (Is usize) (shows 𝓤 H A usize) near (v ∷ []) (λ isn.
-        land ! (from ! (stop !)) (init ! 11 refl (uint-lawful 𝓤 H A W w64 .typed near _ isn .0)) $
-        rewrite ! 11 (λ (z : Val). ‵ (fat fullShare word l₉ 0 z)) (ap only (isn .0)) refl $
-        drop ! $ move ! (3 ∷ []) $ drop ! $ owned ! R (Is R) ((LL.makes T.the-type T′.the-plain) 𝓤 H A) c _ is $
-        assigns ! (addr ! (from ! (fld ! refl (hop ! (look-in ! 18 (sub ! 0 refl (whole !))) (stop !))))) (from ! (stop !)) (init ! 6 refl (tt, tt)) $
-        assigns ! (agg ! (and-then ! (load ! (from ! (stop !)) (look ! 6 refl)) (and-then ! (load ! (from ! (fld ! refl (stop !))) (look-in ! 18 (sub ! 1 refl (whole !)))) (no-more !)))) (from ! (stop !)) (init ! 4 refl (tt, (tt, (record { fits = room .0 }, tt)))) $
+        move ! (2 ∷ []) $ use1 W (‵ Listed ⊛ ‵ Listed) (shr-slice-copy 𝓤 H A W (named 1) (κs .1 .0) R .twice lr (s₂ ∷ [])) $ split ! $ move ! (3 ∷ 0 ∷ 2 ∷ []) $ use3 W (raw (NearerIn 𝓤 H A mem run .pre (to-near c w))) (goes-near (i .0) c w (within less) e) $
+        leaves-said ! fm nearer-in.ended (nearer-in.clauses 𝓤 H A mem run) known-near (to-near c w) (λ near ls. near ≡ nearerAmong (take m cs) c) (λ near ls. id⊢ 𝓤 _) (and-then ! (load ! (from ! (stop !)) (look ! 22 refl)) (and-then ! (load ! (from ! (stop !)) (look ! 20 refl)) (and-then ! (load ! (from ! (stop !)) (look ! 10 refl)) (no-more !)))) (λ v near ls en isn.
+        land ! (from ! (stop !)) (init ! 9 refl (uint-lawful 𝓤 H A W w64 .typed near _ isn .0)) $
+        rewrite ! 9 (λ (z : Val). ‵ (fat fullShare word l₉ 0 z)) (ap only (isn .0)) refl $
+        drop ! $ owned ! R (Is R) ((LL.makes T.the-type T′.the-plain) 𝓤 H A) c _ is $
+        assigns ! (addr ! (from ! (fld ! refl (hop ! (look-in ! 17 (sub ! 0 refl (whole !))) (stop !))))) (from ! (stop !)) (init ! 5 refl (tt, tt)) $
+        assigns ! (agg ! (and-then ! (load ! (from ! (stop !)) (look ! 5 refl)) (and-then ! (load ! (from ! (fld ! refl (stop !))) (look-in ! 17 (sub ! 1 refl (whole !)))) (no-more !)))) (from ! (stop !)) (init ! 3 refl (tt, (tt, (record { fits = room .0 }, tt)))) $
         -- the kept numbers are lent again, for a lifetime ν of the call, and the table is passed on as a copy
-        lft-new ! tt (λ ν. move ! (31 ∷ 32 ∷ []) $ use2 W (later (some (λ (δ : GName). ‵ (MutSlice (named 2) (ν ∷ []) u32 .own (x δ (i .3)) (sliceVal (b, o) (length (i .3)) ∷ [])) ⊛ ‵ (LentAgain u32 (κs .1 .1 .0) (ν ∷ []) (qs .1 .1 .0) γ b o δ (i .3))))) (lends-again u32 (κs .1 .1 .0) (ν ∷ []) (qs .1 .1 .0) γ b o 𝓤 H A W (named 2) (named 2) (i .3)) $ await ! tt $ pick ! (λ δ. split ! $
-        rewrite ! 0 (λ (j : ℕ). ‵ (MutSlice (named 2) (ν ∷ []) u32 .own (x δ (i .3)) (sliceVal (b, o) j ∷ []))) (i .4 .long) refl $ move ! (34 ∷ []) $ use1 W (‵ Tabled ⊛ ‵ Tabled) (shr-slice-copy 𝓤 H A W (named 0) (κs .0) i32 .twice tr (s₁ ∷ [])) $ split ! $ move ! (35 ∷ 4 ∷ 0 ∷ 5 ∷ 2 ∷ []) $ group ! 5 $
+        move ! (29 ∷ 30 ∷ []) $ relends ! tt u32 (κs .1 .1 .0) (qs .1 .1 .0) γ b o (named 2) (i .3) (i .4 .long) (λ ν δ.
+        move ! (33 ∷ []) $ use1 W (‵ Tabled ⊛ ‵ Tabled) (shr-slice-copy 𝓤 H A W (named 0) (κs .0) i32 .twice tr (s₁ ∷ [])) $ split ! $ move ! (34 ∷ 2 ∷ 0 ∷ 5 ∷ 3 ∷ []) $ group ! 5 $
         use1 W (raw (Noted 𝓤 H A mem run .pre (to ν δ i c w near))) (goes ν δ i c w near (isn .1) less e en) $
-        calls-at ! fm (Noted 𝓤 H A mem run) known (to ν δ i c w near) (and-then ! (load ! (from ! (stop !)) (look ! 28 refl)) (and-then ! (load ! (from ! (stop !)) (look ! 14 refl)) (and-then ! (load ! (from ! (stop !)) (look ! 12 refl)) (and-then ! (load ! (from ! (stop !)) (look ! 22 refl)) (and-then ! (load ! (from ! (stop !)) (look ! 6 refl)) (and-then ! (load ! (from ! (stop !)) (look ! 18 refl)) (no-more !))))))) (λ u.
-        use1 W (later (some (λ (r : ℕ). ((‵ (flft (κs .0) (qs .0)) ⊛ ‵ (flft (ν ∷ []) fullShare) ⊛ ‵ ftrue) ⊛ ‵ (usize .own r (u ∷ []))) ⊛ raw (ensured 𝓤 H A noted.ended (noted.clauses 𝓤 H A mem run) (κs .0, (ν ∷ [], tt)) (passed δ i c near) tt r)))) (id⊢ 𝓤 _) $ await ! tt $ pick ! (λ r. split ! $ move ! (1 ∷ []) $
-        use1 W (some (λ (ws : Unit {0} × (Unit {0} × (Unit {0} × (Unit {0} × (List ℕ × (Unit {0} × Unit {0})))))). ‵ (lasts noted.ended (κs .0, (ν ∷ [], tt)) (passed δ i c near) ws) ⊛ raw (fact 𝓤 (NotedAs i c r (ws .1 .1 .1 .1 .0))))) (id⊢ 𝓤 _) $ pick ! (λ ws. split ! $ move ! (1 ∷ []) $ heard ! (NotedAs i c r (ws .1 .1 .1 .1 .0)) (λ f.
-        fsplit ! $ drop ! $ fsplit ! $ drop ! $ fsplit ! $ drop ! $ fsplit ! $ drop ! $ fsplit ! $ fsplit ! $ move ! (1 ∷ []) $ feqL ! (λ l.
-        move ! (2 ∷ []) $ split ! $ split ! $ move ! (1 ∷ []) $ split ! $ move ! (3 ∷ []) $ peeks ! usize (Is usize) (shows 𝓤 H A usize) r (u ∷ []) (λ is′.
-        land ! (from ! (stop !)) (store ! 23 refl (uint-lawful 𝓤 H A W w64 .typed r _ is′ .0)) $
-        rewrite ! 23 (λ (v : Val). ‵ (fat fullShare word l₆ 0 v)) (ap only (is′ .0)) refl $
-        move ! (1 ∷ []) $ lft-end ! tt $ move ! (0 ∷ 7 ∷ 4 ∷ []) $ use3 W (later (‵ (MutSlice (named 2) (κs .1 .1 .0) u32 .own (x γ (ws .1 .1 .1 .1 .0)) (sliceVal (b, o) (length (i .3)) ∷ [])) ⊛ ‵ (flft (κs .1 .1 .0) (qs .1 .1 .0)))) (comes-back u32 (κs .1 .1 .0) (ν ∷ []) (qs .1 .1 .0) γ b o 𝓤 H A W (named 2) (named 2) (i .3) δ (ws .1 .1 .1 .1 .0) (subst (Room u32) (sym (i .4 .long)) room) l) $ await ! tt $ split ! $
-        rewrite ! 0 (λ (j : ℕ). ‵ (MutSlice (named 2) (κs .1 .1 .0) u32 .own (x γ (ws .1 .1 .1 .1 .0)) (sliceVal (b, o) j ∷ []))) (sym l) refl $
-        assigns-last ! (bin ! (load ! (from ! (stop !)) (look ! 20 refl)) (lit ! tt) (record { fits = fits-next less })) (from ! (stop !)) (store ! 20 refl (tt, record { fits = fits-next less })) $
-        forget ! 10 refl $ forget ! 12 refl $ forget ! 14 refl $ forget ! 16 refl $ forget ! 18 refl $
-        keep ! (10 ∷ 11 ∷ 12 ∷ 13 ∷ 14 ∷ 15 ∷ 16 ∷ 17 ∷ 18 ∷ 19 ∷ 20 ∷ 21 ∷ 22 ∷ 23 ∷ 24 ∷ 25 ∷ 26 ∷ 27 ∷ 28 ∷ 29 ∷ 30 ∷ 31 ∷ 32 ∷ 33 ∷ 34 ∷ 35 ∷ 0 ∷ 1 ∷ 4 ∷ 7 ∷ 6 ∷ 9 ∷ []) $ again ! Nearer At i (next less c r (ws .1 .1 .1 .1 .0) e f) (add-one-dec m (i .0) (ltb→lt (i .0) m less)))))))))))))))))))))
+        leaves-said ! fm noted.ended (noted.clauses 𝓤 H A mem run) known (to ν δ i c w near) (λ r ls. NotedAs i c r (ls .1 .1 .1 .1 .0)) (λ r ls. id⊢ 𝓤 _) (and-then ! (load ! (from ! (stop !)) (look ! 27 refl)) (and-then ! (load ! (from ! (stop !)) (look ! 13 refl)) (and-then ! (load ! (from ! (stop !)) (look ! 11 refl)) (and-then ! (load ! (from ! (stop !)) (look ! 21 refl)) (and-then ! (load ! (from ! (stop !)) (look ! 5 refl)) (and-then ! (load ! (from ! (stop !)) (look ! 17 refl)) (no-more !))))))) (λ u r ls f is′.
+        -- [the result; both tokens; the numbers' last; the table; what is kept while they are lent; the list's token; the list; _12; …]
+        land ! (from ! (stop !)) (store ! 20 refl (uint-lawful 𝓤 H A W w64 .typed r _ is′ .0)) $
+        rewrite ! 20 (λ (v : Val). ‵ (fat fullShare word l₆ 0 v)) (ap only (is′ .0)) refl $
+        move ! (2 ∷ 5 ∷ 3 ∷ []) $ relent ! tt u32 (κs .1 .1 .0) (qs .1 .1 .0) γ b o (named 2) (i .3) (subst (Room u32) (sym (i .4 .long)) room) ν δ (ls .1 .1 .1 .1 .0) (λ l.
+        assigns-last ! (bin ! (load ! (from ! (stop !)) (look ! 17 refl)) (lit ! tt) (record { fits = fits-next less })) (from ! (stop !)) (store ! 17 refl (tt, record { fits = fits-next less })) $
+        forget ! 7 refl $ forget ! 9 refl $ forget ! 11 refl $ forget ! 13 refl $ forget ! 15 refl $
+        keep ! (7 ∷ 8 ∷ 9 ∷ 10 ∷ 11 ∷ 12 ∷ 13 ∷ 14 ∷ 15 ∷ 16 ∷ 17 ∷ 18 ∷ 19 ∷ 20 ∷ 21 ∷ 22 ∷ 23 ∷ 24 ∷ 25 ∷ 26 ∷ 27 ∷ 28 ∷ 29 ∷ 30 ∷ 31 ∷ 32 ∷ 0 ∷ 1 ∷ 3 ∷ 5 ∷ 4 ∷ 6 ∷ []) $ again ! Nearer At i (next less c r (ls .1 .1 .1 .1 .0) e f) (add-one-dec m (i .0) (ltb→lt (i .0) m less))))))))
         (λ over. jumps ! $ exec ! C Λ En mir′.t-4 (atRet En Post) $
         assigns ! (of-opd ! (load ! (from ! (stop !)) (look ! 12 refl))) (from ! (stop !)) (init ! 24 refl (tt, record { fits = few i })) $
         returns ! (look ! 24 refl) $ forget ! 4 refl $ forget ! 10 refl $ forget ! 12 refl $ forget ! 14 refl $ forget ! 16 refl $ forget ! 18 refl $ forget ! 20 refl $ forget ! 22 refl $ forget ! 24 refl $
