@@ -57,7 +57,7 @@ use Rattle.vetting.specs.Tested.{numbersPassing, Keepable}
 use Rattle.asking.specs.Asked.{Askable, Filled, Listed}
 use Rattle.record.proofs.Candidate as T
 use Rattle.walks.proofs.Ends.{Called, leaves-said, closes}
-use Rattle.walks.proofs.Lends.{row, MutRow, blank, lays, lends-row, ends-row, relends, relent, rereads, reread}
+use Rattle.walks.proofs.Lends.{row, MutRow, for-none, blank, slices, lays, lends-row, ends-row, relends, relent, rereads, reread}
 use Rattle.walks.proofs.LentRow.{taken}
 use Rattle.asking.proofs.Outcome.{keepable, kept-room, replies}
 use Rattle.walks.proofs.WalkSteps.{asks-nothing}
@@ -96,21 +96,11 @@ module _ {M : Type 1} (𝓤 : URA M) (H : Heap 𝓤) (A : Atoms 𝓤) (mem : Mem
   abbrev Fill : Contract 𝓤
   Fill = Called 𝓤 H A fill.ended (fill.clauses 𝓤 H A mem run)
 
-  abbrev Numbers : Contract 𝓤
-  Numbers = Called 𝓤 H A numbers.ended (numbers.clauses 𝓤 H A mem run)
-
   abbrev Keep : Contract 𝓤
   Keep = Called 𝓤 H A keep-passing.ended (keep-passing.clauses 𝓤 H A mem run)
 
   abbrev Replies : Contract 𝓤
   Replies = Called 𝓤 H A put-answers.ended (put-answers.clauses 𝓤 H A mem run)
-
--- what `numbers` is handed: nothing
-abbrev Nothing : Type 0
-Nothing = Unit {0}
-
-abbrev for-none : (Nothing × Nothing × Nothing × Nothing × Nothing) × Nothing
-for-none = ((tt, tt, tt, tt, tt), tt)
 
 module _ {M : Type 1} (𝓤 : URA M) (H : Heap 𝓤) (A : Atoms 𝓤) (W : Given 𝓤 H A) (mem : Memory → SProp 𝓤) (run : Routine → Fun 𝓤) (κs : Lfts 3) (qs : Shares 3)
     (tr : RefT (List ℤ)) (zx zy : ℤ) (k : ℕ) (b o : ℕ) (γ : GName) (ys : List Candidate) (ar : RefT (List ℕ)) (rt : Room i32 (length (now tr))) (gx : Is i32 zx (vint w32 (ofZ w32 zx) ∷ [])) (gy : Is i32 zy (vint w32 (ofZ w32 zy) ∷ [])) (gk : k < 2 ^ 64) (room : Room R (length ys)) (ra : Room u32 (length (now ar)))
@@ -214,7 +204,7 @@ module _ {M : Type 1} (𝓤 : URA M) (H : Heap 𝓤) (A : Atoms 𝓤) (W : Given
       nothing ! $ move ! (4 ∷ 0 ∷ []) $ join ! $ move ! (3 ∷ 0 ∷ []) $ join ! $ move ! (2 ∷ 0 ∷ []) $ join ! $ frame ! $
       nothing ! $ move ! (3 ∷ 0 ∷ []) $ fjoin ! $ move ! (1 ∷ 0 ∷ []) $ fjoin ! $ owned ! usize (Is usize) (uint-makes 𝓤 H A W w64) k _ (refl, gk) $ fjoin ! $ owned ! i32 (Is i32) (sint-makes 𝓤 H A W w32) zy _ gy $ fjoin ! $ owned ! i32 (Is i32) (sint-makes 𝓤 H A W w32) zx _ gx $ fjoin ! $ move ! (1 ∷ 0 ∷ []) $ fjoin ! $ done !
 
-  module _ (C : Calls 𝓤 H) (Λ : Loops 𝓤 H) (fm : FmC 𝓤 H (W .laws) C) (known-fill : Triple 𝓤 (C #asking·fill·fill) (Fill 𝓤 H A mem run)) (known-numbers : Triple 𝓤 (C #asking·answer·numbers) (Numbers 𝓤 H A mem run))
+  module _ (C : Calls 𝓤 H) (Λ : Loops 𝓤 H) (fm : FmC 𝓤 H (W .laws) C) (known-fill : Triple 𝓤 (C #asking·fill·fill) (Fill 𝓤 H A mem run)) (known-numbers : Triple 𝓤 (C #asking·answer·numbers) (Called 𝓤 H A numbers.ended (numbers.clauses 𝓤 H A mem run)))
       (known-keep : Triple 𝓤 (C #vetting·keep·keep-passing) (Keep 𝓤 H A mem run)) (known-reply : Triple 𝓤 (C #asking·answer·put-answers) (Replies 𝓤 H A mem run)) where
     walk : ent 𝓤 (onEntry 𝓤 H A f.signature κs qs a at) (WpFn 𝓤 H C Λ code.function (s₁ ∷ vint w32 (ofZ w32 zx) ∷ vint w32 (ofZ w32 zy) ∷ vint w64 k ∷ s ∷ s₂ ∷ []) Post)
     walk =
@@ -246,8 +236,7 @@ module _ {M : Type 1} (𝓤 : URA M) (H : Heap 𝓤) (A : Atoms 𝓤) (W : Given
         move ! (26 ∷ 0 ∷ []) $ lays ! u32 500 l₉ tt ks₀ w₁ (λ n₁.
         assigns ! (addr ! (from ! (fld ! refl (hop ! (look-in ! 33 (sub ! 0 refl (whole !))) (stop !))))) (from ! (stop !)) (init ! 16 refl (tt, tt)) $
         assigns ! (agg ! (and-then ! (load ! (from ! (stop !)) (look ! 16 refl)) (and-then ! (load ! (from ! (fld ! refl (stop !))) (look-in ! 33 (sub ! 1 refl (whole !)))) (no-more !)))) (from ! (stop !)) (init ! 14 refl (tt, (tt, (record { fits = room .0 }, tt)))) $
-        assigns ! (addr ! (from ! (stop !))) (from ! (stop !)) (init ! 12 refl (tt, tt)) $
-        assigns ! (agg ! (and-then ! (load ! (from ! (stop !)) (look ! 12 refl)) (and-then ! (lit ! tt) (no-more !)))) (from ! (stop !)) (init ! 10 refl (tt, (tt, (record { fits = lit< tt }, tt)))) $
+        slices ! tt (init ! 12 refl (tt, tt)) (look ! 12 refl) (init ! 10 refl (tt, (tt, (record { fits = lit< tt }, tt)))) $
         lends-row ! tt u32 500 (named 2) l₉ (lit< tt, lit< tt) ks₀ (λ p. move ! (3 ∷ 4 ∷ []) $ rereads ! tt R (κs .1 .0) (qs .1 .0) γ b o (named 1) zs l (λ μ ε.
         move ! (8 ∷ []) $ use1 W (‵ Tabled ⊛ ‵ Tabled) tabled-twice $ split ! $ move ! (9 ∷ 2 ∷ 5 ∷ 0 ∷ 3 ∷ 6 ∷ []) $ group ! 6 $
         use1 W (raw (Keep 𝓤 H A mem run .pre (to-keep l₉ p ks₀ μ ε zs (seen .candidates)))) (goes-keep l₉ p ks₀ μ ε zs (seen .candidates) gm (keeps (length ks₀) (le-of-eq (sym n₁)))) $
@@ -274,7 +263,7 @@ unfolding code.routine
 answer-spec 𝓤 H 𝓜 𝓖 𝓡 =
     let W = givenOf 𝓤 H 𝓜 𝓖 in
     let fill-met = cited 𝓤 H (Fill 𝓤 H (𝓖 .A) (𝓜 .mem) (𝓡 .run)) 𝓜 𝓡 code.env fill-def.name fill-def.routine code.calls-asking·fill·fill (fill-thm.met 𝓤 H 𝓜 𝓖 𝓡) in
-    let numbers-met = cited 𝓤 H (Numbers 𝓤 H (𝓖 .A) (𝓜 .mem) (𝓡 .run)) 𝓜 𝓡 code.env numbers-def.name numbers-def.routine code.calls-asking·answer·numbers (numbers-thm.met 𝓤 H 𝓜 𝓖 𝓡) in
+    let numbers-met = cited 𝓤 H (Called 𝓤 H (𝓖 .A) numbers.ended (numbers.clauses 𝓤 H (𝓖 .A) (𝓜 .mem) (𝓡 .run))) 𝓜 𝓡 code.env numbers-def.name numbers-def.routine code.calls-asking·answer·numbers (numbers-thm.met 𝓤 H 𝓜 𝓖 𝓡) in
     let keep-met = cited 𝓤 H (Keep 𝓤 H (𝓖 .A) (𝓜 .mem) (𝓡 .run)) 𝓜 𝓡 code.env keep-passing-def.name keep-passing-def.routine code.calls-vetting·keep·keep-passing (keep-passing-thm.met 𝓤 H 𝓜 𝓖 𝓡) in
     let reply-met = cited 𝓤 H (Replies 𝓤 H (𝓖 .A) (𝓜 .mem) (𝓡 .run)) 𝓜 𝓡 code.env put-answers-def.name put-answers-def.routine code.calls-asking·answer·put-answers (put-answers-thm.met 𝓤 H 𝓜 𝓖 𝓡) in
     closes 𝓤 H 𝓜 𝓖 𝓡 code.env #asking·answer·answer code.function (code.unfolded 𝓤 H 𝓜 𝓡) f.ended stayed (goes-none-slice 𝓤 H (𝓖 .A) W 3 (0 ∷ []) tt (plain (λ _. i32)) yes, (goes-none 𝓤 H (𝓖 .A) W 3 (λ _. i32) yes (λ κs x f. refl), (goes-none 𝓤 H (𝓖 .A) W 3 (λ _. i32) yes (λ κs x f. refl), (goes-none 𝓤 H (𝓖 .A) W 3 (λ _. usize) yes (λ κs x f. refl), (goes-slice 𝓤 H (𝓖 .A) W 3 1 tt (plain (λ _. R)), (goes-gave-slice 𝓤 H (𝓖 .A) W 3 2 tt (plain (λ _. u32)), tt))))))

@@ -63,7 +63,7 @@ use Rattle.asking.specs.Records.{candidatesIn}
 use Rattle.asking.specs.Asked.{Askable, Filled}
 use Rattle.record.proofs.Candidate as T
 use Rattle.walks.proofs.Ends.{Called, leaves-said, closes}
-use Rattle.walks.proofs.Lends.{row, MutRow, ShrRow, blank, lays, lends-row, ends-row, shares-row, frees-row}
+use Rattle.walks.proofs.Lends.{row, MutRow, ShrRow, for-none, blank, slices, lays, lends-row, ends-row, shares-row, frees-row}
 use Rattle.asking.proofs.Outcome.{points-most, hand-room, filled}
 use Rattle.walks.proofs.WalkSteps.{asks-nothing, three-facts}
 use Rattle.asking.proofs.fill.words as words
@@ -91,24 +91,11 @@ stayed = (stay-none-slice (0 ∷ []) tt (plain (λ _. i32)) yes, (stay-none (λ 
 
 -- the contracts that the proof cites
 module _ {M : Type 1} (𝓤 : URA M) (H : Heap 𝓤) (A : Atoms 𝓤) (mem : Memory → SProp 𝓤) (run : Routine → Fun 𝓤) where
-  abbrev Words : Contract 𝓤
-  Words = Called 𝓤 H A words.ended (words.clauses 𝓤 H A mem run)
-
-  abbrev Squares : Contract 𝓤
-  Squares = Called 𝓤 H A squares.ended (squares.clauses 𝓤 H A mem run)
-
   abbrev Find : Contract 𝓤
   Find = Called 𝓤 H A find.ended (find.clauses 𝓤 H A mem run)
 
   abbrev HandOver : Contract 𝓤
   HandOver = Called 𝓤 H A hand-over.ended (hand-over.clauses 𝓤 H A mem run)
-
--- what `words` and `squares` are handed: nothing
-abbrev Nothing : Type 0
-Nothing = Unit {0}
-
-abbrev for-none : (Nothing × Nothing × Nothing × Nothing × Nothing) × Nothing
-for-none = ((tt, tt, tt, tt, tt), tt)
 
 abbrev row-val : ℕ → Val
 row-val b = sliceVal (b, 0) 500
@@ -216,7 +203,7 @@ module _ {M : Type 1} (𝓤 : URA M) (H : Heap 𝓤) (A : Atoms 𝓤) (W : Given
       nothing ! $ move ! (2 ∷ 0 ∷ []) $ join ! $ move ! (1 ∷ 0 ∷ []) $ join ! $ frame ! $
       nothing ! $ move ! (2 ∷ 0 ∷ []) $ fjoin ! $ owned ! usize (Is usize) (uint-makes 𝓤 H A W w64) k _ (refl, gk) $ fjoin ! $ owned ! i32 (Is i32) (sint-makes 𝓤 H A W w32) zy _ gy $ fjoin ! $ owned ! i32 (Is i32) (sint-makes 𝓤 H A W w32) zx _ gx $ fjoin ! $ move ! (1 ∷ 0 ∷ []) $ fjoin ! $ done !
 
-  module _ (C : Calls 𝓤 H) (Λ : Loops 𝓤 H) (fm : FmC 𝓤 H (W .laws) C) (known-words : Triple 𝓤 (C #asking·fill·words) (Words 𝓤 H A mem run)) (known-squares : Triple 𝓤 (C #asking·fill·squares) (Squares 𝓤 H A mem run))
+  module _ (C : Calls 𝓤 H) (Λ : Loops 𝓤 H) (fm : FmC 𝓤 H (W .laws) C) (known-words : Triple 𝓤 (C #asking·fill·words) (Called 𝓤 H A words.ended (words.clauses 𝓤 H A mem run))) (known-squares : Triple 𝓤 (C #asking·fill·squares) (Called 𝓤 H A squares.ended (squares.clauses 𝓤 H A mem run)))
       (known-find : Triple 𝓤 (C #filter·find·find) (Find 𝓤 H A mem run)) (known-hand : Triple 𝓤 (C #asking·hand·hand-over) (HandOver 𝓤 H A mem run)) where
     walk : ent 𝓤 (onEntry 𝓤 H A f.signature κs qs a at) (WpFn 𝓤 H C Λ code.function (s₁ ∷ vint w32 (ofZ w32 zx) ∷ vint w32 (ofZ w32 zy) ∷ vint w64 k ∷ s ∷ []) Post)
     walk =
@@ -241,14 +228,10 @@ module _ {M : Type 1} (𝓤 : URA M) (H : Heap 𝓤) (A : Atoms 𝓤) (W : Given
         land ! (from ! (stop !)) (init ! 42 refl (square-typed ss₀ _ is₄ .0)) $ assigns ! (of-opd ! (load ! (from ! (stop !)) (look ! 42 refl))) (from ! (stop !)) (init ! 50 refl (square-typed ss₀ _ is₄ .0)) $
         move ! (50 ∷ 0 ∷ []) $ lays ! u64 500 l₉ tt ss₀ w₄ (λ n₄.
         -- each row is lent to the walk, for a lifetime of the call
-        assigns ! (addr ! (from ! (stop !))) (from ! (stop !)) (init ! 40 refl (tt, tt)) $
-        assigns ! (agg ! (and-then ! (load ! (from ! (stop !)) (look ! 40 refl)) (and-then ! (lit ! tt) (no-more !)))) (from ! (stop !)) (init ! 38 refl (tt, (tt, (record { fits = lit< tt }, tt)))) $
-        assigns ! (addr ! (from ! (stop !))) (from ! (stop !)) (init ! 36 refl (tt, tt)) $
-        assigns ! (agg ! (and-then ! (load ! (from ! (stop !)) (look ! 36 refl)) (and-then ! (lit ! tt) (no-more !)))) (from ! (stop !)) (init ! 34 refl (tt, (tt, (record { fits = lit< tt }, tt)))) $
-        assigns ! (addr ! (from ! (stop !))) (from ! (stop !)) (init ! 32 refl (tt, tt)) $
-        assigns ! (agg ! (and-then ! (load ! (from ! (stop !)) (look ! 32 refl)) (and-then ! (lit ! tt) (no-more !)))) (from ! (stop !)) (init ! 30 refl (tt, (tt, (record { fits = lit< tt }, tt)))) $
-        assigns ! (addr ! (from ! (stop !))) (from ! (stop !)) (init ! 28 refl (tt, tt)) $
-        assigns ! (agg ! (and-then ! (load ! (from ! (stop !)) (look ! 28 refl)) (and-then ! (lit ! tt) (no-more !)))) (from ! (stop !)) (init ! 26 refl (tt, (tt, (record { fits = lit< tt }, tt)))) $
+        slices ! tt (init ! 40 refl (tt, tt)) (look ! 40 refl) (init ! 38 refl (tt, (tt, (record { fits = lit< tt }, tt)))) $
+        slices ! tt (init ! 36 refl (tt, tt)) (look ! 36 refl) (init ! 34 refl (tt, (tt, (record { fits = lit< tt }, tt)))) $
+        slices ! tt (init ! 32 refl (tt, tt)) (look ! 32 refl) (init ! 30 refl (tt, (tt, (record { fits = lit< tt }, tt)))) $
+        slices ! tt (init ! 28 refl (tt, tt)) (look ! 28 refl) (init ! 26 refl (tt, (tt, (record { fits = lit< tt }, tt)))) $
         move ! (3 ∷ []) $ lends-row ! tt i32 500 (named 1) l₆ (lit< tt, lit< tt) ns₀ (λ p₁.
         move ! (5 ∷ []) $ lends-row ! tt i32 500 (named 2) l₇ (lit< tt, lit< tt) xs₀ (λ p₂.
         move ! (7 ∷ []) $ lends-row ! tt i32 500 (named 3) l₈ (lit< tt, lit< tt) ys₀ (λ p₃.
@@ -273,14 +256,10 @@ module _ {M : Type 1} (𝓤 : URA M) (H : Heap 𝓤) (A : Atoms 𝓤) (W : Given
         move ! (5 ∷ 8 ∷ 6 ∷ []) $ ends-row ! tt u64 500 l₉ p₄ ss₁ $
         assigns ! (addr ! (from ! (fld ! refl (hop ! (look-in ! 57 (sub ! 0 refl (whole !))) (stop !))))) (from ! (stop !)) (init ! 25 refl (tt, tt)) $
         assigns ! (agg ! (and-then ! (load ! (from ! (stop !)) (look ! 25 refl)) (and-then ! (load ! (from ! (fld ! refl (stop !))) (look-in ! 57 (sub ! 1 refl (whole !)))) (no-more !)))) (from ! (stop !)) (init ! 23 refl (tt, (tt, (record { fits = room .0 }, tt)))) $
-        assigns ! (addr ! (from ! (stop !))) (from ! (stop !)) (init ! 21 refl (tt, tt)) $
-        assigns ! (agg ! (and-then ! (load ! (from ! (stop !)) (look ! 21 refl)) (and-then ! (lit ! tt) (no-more !)))) (from ! (stop !)) (init ! 19 refl (tt, (tt, (record { fits = lit< tt }, tt)))) $
-        assigns ! (addr ! (from ! (stop !))) (from ! (stop !)) (init ! 17 refl (tt, tt)) $
-        assigns ! (agg ! (and-then ! (load ! (from ! (stop !)) (look ! 17 refl)) (and-then ! (lit ! tt) (no-more !)))) (from ! (stop !)) (init ! 15 refl (tt, (tt, (record { fits = lit< tt }, tt)))) $
-        assigns ! (addr ! (from ! (stop !))) (from ! (stop !)) (init ! 13 refl (tt, tt)) $
-        assigns ! (agg ! (and-then ! (load ! (from ! (stop !)) (look ! 13 refl)) (and-then ! (lit ! tt) (no-more !)))) (from ! (stop !)) (init ! 11 refl (tt, (tt, (record { fits = lit< tt }, tt)))) $
-        assigns ! (addr ! (from ! (stop !))) (from ! (stop !)) (init ! 9 refl (tt, tt)) $
-        assigns ! (agg ! (and-then ! (load ! (from ! (stop !)) (look ! 9 refl)) (and-then ! (lit ! tt) (no-more !)))) (from ! (stop !)) (init ! 7 refl (tt, (tt, (record { fits = lit< tt }, tt)))) $
+        slices ! tt (init ! 21 refl (tt, tt)) (look ! 21 refl) (init ! 19 refl (tt, (tt, (record { fits = lit< tt }, tt)))) $
+        slices ! tt (init ! 17 refl (tt, tt)) (look ! 17 refl) (init ! 15 refl (tt, (tt, (record { fits = lit< tt }, tt)))) $
+        slices ! tt (init ! 13 refl (tt, tt)) (look ! 13 refl) (init ! 11 refl (tt, (tt, (record { fits = lit< tt }, tt)))) $
+        slices ! tt (init ! 9 refl (tt, tt)) (look ! 9 refl) (init ! 7 refl (tt, (tt, (record { fits = lit< tt }, tt)))) $
         move ! (3 ∷ []) $ shares-row ! tt i32 500 (named 1) l₆ (lit< tt, lit< tt) ns₁ (λ o₁.
         move ! (5 ∷ []) $ shares-row ! tt i32 500 (named 2) l₇ (lit< tt, lit< tt) xs₁ (λ o₂.
         move ! (7 ∷ []) $ shares-row ! tt i32 500 (named 3) l₈ (lit< tt, lit< tt) ys₁ (λ o₃.
@@ -304,8 +283,8 @@ pub fill-spec : {M : Type 1} → stated.statement M
 unfolding code.routine
 fill-spec 𝓤 H 𝓜 𝓖 𝓡 =
     let W = givenOf 𝓤 H 𝓜 𝓖 in
-    let words-met = cited 𝓤 H (Words 𝓤 H (𝓖 .A) (𝓜 .mem) (𝓡 .run)) 𝓜 𝓡 code.env words-def.name words-def.routine code.calls-asking·fill·words (words-thm.met 𝓤 H 𝓜 𝓖 𝓡) in
-    let squares-met = cited 𝓤 H (Squares 𝓤 H (𝓖 .A) (𝓜 .mem) (𝓡 .run)) 𝓜 𝓡 code.env squares-def.name squares-def.routine code.calls-asking·fill·squares (squares-thm.met 𝓤 H 𝓜 𝓖 𝓡) in
+    let words-met = cited 𝓤 H (Called 𝓤 H (𝓖 .A) words.ended (words.clauses 𝓤 H (𝓖 .A) (𝓜 .mem) (𝓡 .run))) 𝓜 𝓡 code.env words-def.name words-def.routine code.calls-asking·fill·words (words-thm.met 𝓤 H 𝓜 𝓖 𝓡) in
+    let squares-met = cited 𝓤 H (Called 𝓤 H (𝓖 .A) squares.ended (squares.clauses 𝓤 H (𝓖 .A) (𝓜 .mem) (𝓡 .run))) 𝓜 𝓡 code.env squares-def.name squares-def.routine code.calls-asking·fill·squares (squares-thm.met 𝓤 H 𝓜 𝓖 𝓡) in
     let find-met = cited 𝓤 H (Find 𝓤 H (𝓖 .A) (𝓜 .mem) (𝓡 .run)) 𝓜 𝓡 code.env find-def.name find-def.routine code.calls-filter·find·find (find-thm.met 𝓤 H 𝓜 𝓖 𝓡) in
     let hand-met = cited 𝓤 H (HandOver 𝓤 H (𝓖 .A) (𝓜 .mem) (𝓡 .run)) 𝓜 𝓡 code.env hand-over-def.name hand-over-def.routine code.calls-asking·hand·hand-over (hand-over-thm.met 𝓤 H 𝓜 𝓖 𝓡) in
     closes 𝓤 H 𝓜 𝓖 𝓡 code.env #asking·fill·fill code.function (code.unfolded 𝓤 H 𝓜 𝓡) f.ended stayed (goes-none-slice 𝓤 H (𝓖 .A) W 2 (0 ∷ []) tt (plain (λ _. i32)) yes, (goes-none 𝓤 H (𝓖 .A) W 2 (λ _. i32) yes (λ κs x f. refl), (goes-none 𝓤 H (𝓖 .A) W 2 (λ _. i32) yes (λ κs x f. refl), (goes-none 𝓤 H (𝓖 .A) W 2 (λ _. usize) yes (λ κs x f. refl), (goes-gave-slice 𝓤 H (𝓖 .A) W 2 1 tt (plain (λ _. R)), tt)))))
