@@ -18,7 +18,7 @@ use ghost.Atoms.{Atoms}
 use contract.Monad.{Fun}
 use contract.Running.{givenOf}
 use types.Kit.{Given, ‵, _⊛_, ⋆, _$_, _∵_, !, qed, by, move, keep, drop, split, join, rewrite, fsplit, fjoin, feqI, suffices, frame, done}
-use types.Run.{look, init, store-raw, forget, stop, hop, fld, from, load, lit, unit-lit, of-opd, bin, assigns, returns, enter, alloc1, alloc0, params1, pass1, pass0, free1, free0}
+use types.Run.{look, init, store-raw, forget, stop, hop, fld, from, load, lit, unit-lit, of-opd, bin, assigns, returns, enter, alloc1, alloc0, params1, pass1, pass0}
 use types.Part.{whole, sub, look-in}
 use denote.RattleType.{RattleType, owns}
 use denote.Shadow.{pureI}
@@ -40,6 +40,7 @@ use Rattle.record.specs.Blank.{none}
 use Rattle.record.proofs.Candidate as T
 use Rattle.record.proofs.Candidate.Laws as T′
 use Rattle.walks.proofs.Ends.{closes}
+use Rattle.walks.proofs.Lends.{all-freed}
 use Rattle.record.proofs.append.Key.{name as #record·append}
 use Rattle.record.proofs.append as append
 use Rattle.record.proofs.append.Statement as stated
@@ -100,7 +101,7 @@ module _ {M : Type 1} (𝓤 : URA M) (H : Heap 𝓤) (A : Atoms 𝓤) (W : Given
         closes-slice ! tt R ys zs (length-set ys i v) b o $
         assigns ! (of-opd ! (unit-lit !)) (from ! (stop !)) (init ! 16 refl (tt, tt)) $
         returns ! (look ! 16 refl) $ forget ! 6 refl $ forget ! 8 refl $ forget ! 10 refl $ forget ! 12 refl $ forget ! 14 refl $ forget ! 16 refl $
-        move ! (16 ∷ 17 ∷ []) $ free1 ! $ move ! (14 ∷ 15 ∷ []) $ free1 ! $ move ! (12 ∷ 13 ∷ []) $ free1 ! $ move ! (10 ∷ 11 ∷ []) $ free1 ! $ move ! (8 ∷ 9 ∷ []) $ free1 ! $ move ! (6 ∷ 7 ∷ []) $ free1 ! $ free0 ! $
+        move ! (16 ∷ 17 ∷ 14 ∷ 15 ∷ 12 ∷ 13 ∷ 10 ∷ 11 ∷ 8 ∷ 9 ∷ 6 ∷ 7 ∷ []) $ all-freed ! $
         keep ! (0 ∷ 1 ∷ 2 ∷ 5 ∷ []) $ by ! (exits gn))))))))
 
 pub append-spec : {M : Type 1} → stated.statement M

@@ -22,7 +22,7 @@ use contract.Monad.{Fun}
 use contract.Lifetimes.{Lfts, Shares}
 use contract.Running.{givenOf}
 use types.Kit.{Given, ‵, raw, _⊛_, ⋆, some, _$_, _∵_, !, qed, by, move, keep, use1, group, split, join, pick, rewrite, fsplit, fjoin, feqL, suffices, frame, done}
-use types.Run.{look, init, store, forget, stop, hop, fld, from, load, lit, addr, of-opd, and-then, no-more, assigns, land, returns, enter, alloc1, alloc0, params1, pass1, pass0, free1, free0}
+use types.Run.{look, init, store, forget, stop, hop, fld, from, load, lit, addr, of-opd, and-then, no-more, assigns, land, returns, enter, alloc1, alloc0, params1, pass1, pass0}
 use types.Part.{agg, whole, sub, look-in}
 use sound.WpLaws.{FmC}
 use denote.RattleType.{RattleType, owns}
@@ -57,7 +57,7 @@ use Rattle.vetting.specs.Tested.{numbersPassing, Keepable}
 use Rattle.asking.specs.Asked.{Askable, Filled, Listed}
 use Rattle.record.proofs.Candidate as T
 use Rattle.walks.proofs.Ends.{Called, leaves-said, closes}
-use Rattle.walks.proofs.Lends.{row, MutRow, for-none, blank, slices, lays, lends-row, ends-row, relends, relent, rereads, reread}
+use Rattle.walks.proofs.Lends.{all-freed, row, MutRow, for-none, blank, slices, lays, lends-row, ends-row, relends, relent, rereads, reread}
 use Rattle.walks.proofs.LentRow.{taken}
 use Rattle.asking.proofs.Outcome.{keepable, kept-room, replies}
 use Rattle.walks.proofs.WalkSteps.{asks-nothing}
@@ -255,7 +255,7 @@ module _ {M : Type 1} (𝓤 : URA M) (H : Heap 𝓤) (A : Atoms 𝓤) (W : Given
         -- [the reply; its token; the answers' last; the numbers; the list; its token; the table's; the table; _19; …]
         land ! (from ! (stop !)) (init ! 45 refl (LL.lawful P.the-type P′.the-laws 𝓤 H A W .typed r _ is₄ .0)) $ move ! (2 ∷ []) $ fsplit ! $ move ! (1 ∷ []) $ feqL ! (λ l′.
         returns ! (look ! 45 refl) $ forget ! 8 refl $ forget ! 10 refl $ forget ! 12 refl $ forget ! 14 refl $ forget ! 16 refl $ forget ! 18 refl $ forget ! 20 refl $ forget ! 22 refl $ forget ! 24 refl $ forget ! 26 refl $ forget ! 3 refl $ forget ! 29 refl $ forget ! 31 refl $ forget ! 33 refl $ forget ! 35 refl $ forget ! 37 refl $ forget ! 39 refl $ forget ! 41 refl $ forget ! 43 refl $ forget ! 45 refl $
-        move ! (45 ∷ 46 ∷ []) $ free1 ! $ move ! (43 ∷ 44 ∷ []) $ free1 ! $ move ! (41 ∷ 42 ∷ []) $ free1 ! $ move ! (39 ∷ 40 ∷ []) $ free1 ! $ move ! (37 ∷ 38 ∷ []) $ free1 ! $ move ! (35 ∷ 36 ∷ []) $ free1 ! $ move ! (33 ∷ 34 ∷ []) $ free1 ! $ move ! (31 ∷ 32 ∷ []) $ free1 ! $ move ! (29 ∷ 30 ∷ []) $ free1 ! $ move ! (3 ∷ 28 ∷ []) $ free1 ! $ move ! (25 ∷ 26 ∷ []) $ free1 ! $ move ! (23 ∷ 24 ∷ []) $ free1 ! $ move ! (21 ∷ 22 ∷ []) $ free1 ! $ move ! (19 ∷ 20 ∷ []) $ free1 ! $ move ! (17 ∷ 18 ∷ []) $ free1 ! $ move ! (15 ∷ 16 ∷ []) $ free1 ! $ move ! (13 ∷ 14 ∷ []) $ free1 ! $ move ! (11 ∷ 12 ∷ []) $ free1 ! $ move ! (9 ∷ 10 ∷ []) $ free1 ! $ move ! (7 ∷ 8 ∷ []) $ free1 ! $ free0 ! $
+        move ! (45 ∷ 46 ∷ 43 ∷ 44 ∷ 41 ∷ 42 ∷ 39 ∷ 40 ∷ 37 ∷ 38 ∷ 35 ∷ 36 ∷ 33 ∷ 34 ∷ 31 ∷ 32 ∷ 29 ∷ 30 ∷ 3 ∷ 28 ∷ 26 ∷ 27 ∷ 24 ∷ 25 ∷ 22 ∷ 23 ∷ 20 ∷ 21 ∷ 18 ∷ 19 ∷ 16 ∷ 17 ∷ 14 ∷ 15 ∷ 12 ∷ 13 ∷ 10 ∷ 11 ∷ 8 ∷ 9 ∷ []) $ all-freed ! $
         keep ! (3 ∷ 5 ∷ 4 ∷ 2 ∷ 6 ∷ 0 ∷ 1 ∷ []) $ by ! (exits zs (ts .1 .1 .1 .0) r u l l′ (subst (Listed ws q k ys zs (now ar) (ts .1 .1 .1 .0)) (sym (told′ .0)) (replies (pre .table) q grid k filled (pre .room) c ks ks₀ (kept .0) (kept .1) (now ar) (ts .1 .1 .1 .0) (told′ .1))))))))))))))))))))))))))))))))))))
 
 pub answer-spec : {M : Type 1} → stated.statement M

@@ -26,7 +26,7 @@ use contract.Monad.{Fun}
 use contract.Lifetimes.{Lfts, Shares, toks}
 use contract.Running.{givenOf, tables, tablesOf}
 use types.Kit.{Given, Item, ‵, raw, runs, anyQ, atRet, Sq, _⊛_, ⋆, _$_, _∵_, !, qed, by, move, keep, use1, use2, use3, split, join, rewrite, fsplit, fjoin, feqI, suffices, frame, done}
-use types.Run.{look, init, store, forget, stop, hop, fld, from, load, lit, addr, unit-lit, of-opd, bin, and-then, no-more, assigns, assigns-last, land, first, skips, jumps, blocks, branches, returns, enter, alloc1, alloc0, params1, pass1, pass0, free1, free0, exec, Below, again, loops}
+use types.Run.{look, init, store, forget, stop, hop, fld, from, load, lit, addr, unit-lit, of-opd, bin, and-then, no-more, assigns, assigns-last, land, first, skips, jumps, blocks, branches, returns, enter, alloc1, alloc0, params1, pass1, pass0, exec, Below, again, loops}
 use types.Part.{agg, whole, sub, look-in}
 use sound.WpLaws.{FmC}
 use denote.RattleType.{RattleType, owns}
@@ -51,7 +51,7 @@ use Rattle.asking.specs.Records.{candidateIn, candidatesIn}
 use Rattle.record.proofs.Candidate as T
 use Rattle.record.proofs.Candidate.Laws as T′
 use Rattle.walks.proofs.Ends.{Called, answers, leaves-said, closes}
-use Rattle.walks.proofs.Lends.{relends, relent}
+use Rattle.walks.proofs.Lends.{all-freed, relends, relent}
 use Rattle.asking.proofs.Laid.{hand-start, hand-step}
 use Rattle.walks.proofs.WalkSteps.{twice-both}
 use Rattle.record.proofs.append as append
@@ -276,7 +276,7 @@ module _ {M : Type 1} (𝓤 : URA M) (H : Heap 𝓤) (A : Atoms 𝓤) (W : Given
         (λ over. jumps ! $ exec ! C Λ En mir′.t-3 (atRet En Post) $
         assigns ! (of-opd ! (unit-lit !)) (from ! (stop !)) (init ! 24 refl (tt, tt)) $
         returns ! (look ! 24 refl) $ forget ! 6 refl $ forget ! 10 refl $ forget ! 12 refl $ forget ! 14 refl $ forget ! 16 refl $ forget ! 18 refl $ forget ! 20 refl $ forget ! 22 refl $ forget ! 24 refl $
-        move ! (24 ∷ 25 ∷ []) $ free1 ! $ move ! (22 ∷ 23 ∷ []) $ free1 ! $ move ! (20 ∷ 21 ∷ []) $ free1 ! $ move ! (18 ∷ 19 ∷ []) $ free1 ! $ move ! (16 ∷ 17 ∷ []) $ free1 ! $ move ! (14 ∷ 15 ∷ []) $ free1 ! $ move ! (12 ∷ 13 ∷ []) $ free1 ! $ move ! (10 ∷ 11 ∷ []) $ free1 ! $ move ! (8 ∷ 9 ∷ []) $ free1 ! $ move ! (6 ∷ 7 ∷ []) $ free1 ! $ move ! (4 ∷ 5 ∷ []) $ free1 ! $ move ! (2 ∷ 3 ∷ []) $ free1 ! $ free1 ! $ free0 ! $
+        move ! (24 ∷ 25 ∷ 22 ∷ 23 ∷ 20 ∷ 21 ∷ 18 ∷ 19 ∷ 16 ∷ 17 ∷ 14 ∷ 15 ∷ 12 ∷ 13 ∷ 10 ∷ 11 ∷ 8 ∷ 9 ∷ 6 ∷ 7 ∷ 4 ∷ 5 ∷ 2 ∷ 3 ∷ 0 ∷ 1 ∷ []) $ all-freed ! $
         by ! (exits (i .2) (i .3) (at-end over)))
       where
         fits : (j : Upto) → j .0 < 2 ^ 64
