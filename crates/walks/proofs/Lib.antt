@@ -3,4 +3,5 @@ pub mod Ends
 pub mod Lends
 pub mod LentRow
 pub mod Reshared
+pub mod Turns
 pub mod WalkSteps

@@ -5,10 +5,8 @@ use Prim.Native.Nat.{ℕ, _+_, _-_, _≤_, _<_, _^_, zero-le}
 use native.Mathlib.Nat.{lt-of-le-of-lt, lt-of-lt-of-le}
 use native.Mathlib.Numerals.{add-one-le, add-one-dec}
 use native.Mathlib.Omega.{arith}
-use mathlib.Core.WellFounded.{WellFounded, InvImage·wf}
 use mathlib.Core.List.{[], _∷_, List}
 use mathlib.Core.Bool.{not}
-use lib.WfN.{Nat·lt-wfRel}
 use lib.IntN.{ℤ}
 use lib.Dec.{T as Holds, ltb, ltb→lt, nltb→le, lit<}
 use lib.ListN.{length, set, length-set}
@@ -20,13 +18,13 @@ use base.Logic.{SProp, ent, sep, id⊢}
 use base.Fml.{GName, Fml, fsep, flft, fat, froom, fdies}
 use prog.Memory.{Memory}
 use prog.Routine.{Routine}
-use prog.Wp.{Heap, Out, Env, afterSeq, afterBlock, afterTurn, Calls, Loops, Wp, atReturn, WpFn, Tables}
+use prog.Wp.{Heap, Env, afterTurn, Calls, Loops, WpFn, Tables}
 use ghost.Atoms.{Atoms, sem}
 use contract.Monad.{Fun}
 use contract.Lifetimes.{Lfts, Shares, toks}
 use contract.Running.{givenOf, tables, tablesOf}
 use types.Kit.{Given, Item, ‵, raw, runs, anyQ, atRet, Sq, _⊛_, ⋆, _$_, _∵_, !, qed, by, move, keep, use1, use2, use3, split, join, rewrite, fsplit, fjoin, feqI, suffices, frame, done}
-use types.Run.{look, init, store, forget, stop, hop, fld, from, load, lit, addr, unit-lit, of-opd, bin, and-then, no-more, assigns, assigns-last, land, first, skips, jumps, blocks, branches, returns, enter, alloc1, alloc0, params1, pass1, pass0, exec, Below, again, loops}
+use types.Run.{look, init, store, forget, stop, hop, fld, from, load, lit, addr, unit-lit, of-opd, bin, and-then, no-more, assigns, assigns-last, land, first, skips, jumps, blocks, branches, returns, enter, alloc1, alloc0, params1, pass1, pass0, exec, again, loops}
 use types.Part.{agg, whole, sub, look-in}
 use sound.WpLaws.{FmC}
 use denote.RattleType.{RattleType, owns}
@@ -52,6 +50,7 @@ use Rattle.record.proofs.Candidate as T
 use Rattle.record.proofs.Candidate.Laws as T′
 use Rattle.walks.proofs.Ends.{Called, answers, leaves-said, closes}
 use Rattle.walks.proofs.Lends.{all-freed, relends, relent}
+use Rattle.walks.proofs.Turns.{NearerTo, NearerTo-wf, Turned}
 use Rattle.asking.proofs.Laid.{hand-start, hand-step}
 use Rattle.walks.proofs.WalkSteps.{twice-both}
 use Rattle.record.proofs.append as append
@@ -222,10 +221,7 @@ module _ {M : Type 1} (𝓤 : URA M) (H : Heap 𝓤) (A : Atoms 𝓤) (W : Given
   Upto = (i : ℕ) × (i ≤ m) × (zs : List Candidate) × (length zs ≡ length ys) × (zs ≡ laidOver (candidatesIn rs i) ys)
 
   abbrev Nearer : Upto → Upto → Type 0
-  Nearer j i = m - j .0 < m - i .0
-
-  Nearer-wf : WellFounded Nearer
-  Nearer-wf = InvImage·wf (λ (i : Upto). m - i .0) (Nat·lt-wfRel .wf)
+  Nearer = NearerTo (λ (i : Upto). i .0) m
 
   module _ (𝓣 : Tables 𝓤 H) (fm : FmC 𝓤 H (W .laws) (𝓣 .C)) (known : Triple 𝓤 (𝓣 .C #record·append) (Append 𝓤 H A mem run)) (known-row : Triple 𝓤 (𝓣 .C #asking·hand·candidate-at) (CandidateAt 𝓤 H A mem run)) (l₀ l₁ l₂ l₃ l₄ l₅ l₆ l₇ l₈ l₉ l₁₀ l₁₁ l₁₂ : ℕ) where
     abbrev C : Calls 𝓤 H
@@ -247,16 +243,12 @@ module _ {M : Type 1} (𝓤 : URA M) (H : Heap 𝓤) (A : Atoms 𝓤) (W : Given
         ∷ ‵ (froom tyUnit l₀ 0) ∷ ‵ (fdies tyUnit l₀) ∷ ‵ (Own (i .2)) ∷ ‵ (flft (κs .0) (qs .0))
         ∷ raw Tokens ∷ ‵ Rowed ∷ []
 
-    -- a turn's postcondition: it ends nearer to m, or the loop is left and the rest of the body runs
-    abbrev Turned : Upto → Out → SProp 𝓤
-    Turned i = afterTurn 𝓤 H (Below 𝓤 H A Nearer At i) (afterBlock 𝓤 H (afterSeq 𝓤 H (Wp 𝓤 H C Λ En mir′.t-3 (atReturn 𝓤 H En Post)) (atReturn 𝓤 H En Post)))
-
-    turns : (i : Upto) → Sq W (At i) (runs C Λ En mir′.turn-1 (anyQ (Turned i)))
+    turns : (i : Upto) → Sq W (At i) (runs C Λ En mir′.turn-1 (anyQ (Turned 𝓤 H A Nearer At C Λ En mir′.t-3 Post i)))
     unfolding afterTurn
     turns i =
         assigns ! (bin ! (load ! (from ! (stop !)) (look ! 10 refl)) (load ! (from ! (stop !)) (look ! 12 refl)) tt) (from ! (stop !)) (init ! 6 refl (tt, tt)) $
         first ! $ branches ! (load ! (from ! (stop !)) (look ! 6 refl))
-        (λ less. skips ! $ exec ! C Λ En more (anyQ (Turned i)) $
+        (λ less. skips ! $ exec ! C Λ En more (anyQ (Turned 𝓤 H A Nearer At C Λ En mir′.t-3 Post i)) $
         -- […; what the list owns; the token; the rows' tokens; what the rows own]: the rows are passed on as a copy
         move ! (29 ∷ []) $ use1 W (‵ Rowed ⊛ ‵ Rowed) rowed-twice $ split ! $ move ! (30 ∷ 0 ∷ []) $ use2 W (raw (CandidateAt 𝓤 H A mem run .pre (at-row (i .0)))) (goes-row (i .0) (within less)) $
         answers ! fm candidate-at.ended (candidate-at.clauses 𝓤 H A mem run) known-row (at-row (i .0)) (λ v. v ≡ candidateIn rs (i .0)) (λ v ws. id⊢ 𝓤 _) (and-then ! (load ! (from ! (stop !)) (look ! 22 refl)) (and-then ! (load ! (from ! (stop !)) (look ! 20 refl)) (and-then ! (load ! (from ! (stop !)) (look ! 18 refl)) (and-then ! (load ! (from ! (stop !)) (look ! 16 refl)) (and-then ! (load ! (from ! (stop !)) (look ! 12 refl)) (no-more !)))))) (λ w v e is.
@@ -316,7 +308,7 @@ module _ {M : Type 1} (𝓤 : URA M) (H : Heap 𝓤) (A : Atoms 𝓤) (W : Given
       pass1 ! (init ! 22 refl (tt, (tt, (record { fits = room .0 }, tt)))) $ pass1 ! (init ! 20 refl (tt, (tt, (record { fits = rn .0 }, tt)))) $ pass1 ! (init ! 18 refl (tt, (tt, (record { fits = rx .0 }, tt)))) $ pass1 ! (init ! 16 refl (tt, (tt, (record { fits = ry .0 }, tt)))) $ pass1 ! (init ! 14 refl (tt, (tt, (record { fits = rq .0 }, tt)))) $ pass1 ! (init ! 12 refl (tt, record { fits = gm })) $ pass0 ! $
       move ! (26 ∷ []) $ split ! $ move ! (28 ∷ []) $ fsplit ! $ move ! (1 ∷ []) $ fsplit ! $ move ! (1 ∷ []) $ fsplit ! $ move ! (1 ∷ []) $ fsplit ! $ move ! (1 ∷ []) $ fsplit ! $ move ! (2 ∷ 0 ∷ []) $ fjoin ! $ move ! (2 ∷ 0 ∷ []) $ fjoin ! $ move ! (2 ∷ 0 ∷ []) $ fjoin ! $ keep ! (5 ∷ 6 ∷ 7 ∷ 8 ∷ 9 ∷ 10 ∷ 11 ∷ 12 ∷ 13 ∷ 14 ∷ 15 ∷ 16 ∷ 17 ∷ 18 ∷ 19 ∷ 20 ∷ 21 ∷ 22 ∷ 23 ∷ 24 ∷ 25 ∷ 26 ∷ 27 ∷ 28 ∷ 29 ∷ 30 ∷ 2 ∷ 3 ∷ 4 ∷ 0 ∷ []) $
       assigns ! (of-opd ! (lit ! tt)) (from ! (stop !)) (init ! 10 refl (tt, record { fits = lit< tt })) $
-      first ! $ blocks ! $ loops ! 𝓣 Nearer Nearer-wf (At 𝓣 fm known known-row l₀ l₁ l₂ l₃ l₄ l₅ l₆ l₇ l₈ l₉ l₁₀ l₁₁ l₁₂) (turns 𝓣 fm known known-row l₀ l₁ l₂ l₃ l₄ l₅ l₆ l₇ l₈ l₉ l₁₀ l₁₁ l₁₂) (0, zero-le, ys, refl, hand-start rs ys))))))))))))))
+      first ! $ blocks ! $ loops ! 𝓣 Nearer (NearerTo-wf (λ (i : Upto). i .0) m) (At 𝓣 fm known known-row l₀ l₁ l₂ l₃ l₄ l₅ l₆ l₇ l₈ l₉ l₁₀ l₁₁ l₁₂) (turns 𝓣 fm known known-row l₀ l₁ l₂ l₃ l₄ l₅ l₆ l₇ l₈ l₉ l₁₀ l₁₁ l₁₂) (0, zero-le, ys, refl, hand-start rs ys))))))))))))))
 
 pub hand-over-spec : {M : Type 1} → stated.statement M
 unfolding code.routine tablesOf
