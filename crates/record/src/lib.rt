@@ -1,5 +1,5 @@
 // The candidate list as a lent row of records: a record is put in its place, and read back.
-// It promises the one record, and that the others stay. It stands on nothing.
+// It promises the one record, and that the others stay. It stands on nothing; its proofs stand on walks.
 ghost use mathlib.Core.Path.{_≡_};
 ghost use Prim.Native.Nat.{_<_};
 ghost use lib.ListN.{length, set, getD};

@@ -5,10 +5,8 @@ use Prim.Native.Nat.{ℕ, _+_, _-_, _≤_, _<_, _^_, zero-le}
 use native.Mathlib.Nat.{lt-of-le-of-lt, lt-of-lt-of-le, le-of-lt}
 use native.Mathlib.Numerals.{add-one-le, add-one-dec}
 use native.Mathlib.Omega.{arith}
-use mathlib.Core.WellFounded.{WellFounded, InvImage·wf}
 use mathlib.Core.List.{[], _∷_, List}
 use mathlib.Core.Bool.{true, false, not, cond}
-use lib.WfN.{Nat·lt-wfRel}
 use lib.IntN.{ℤ}
 use lib.Dec.{T as Holds, ltb, ltb→lt, nltb→le, lit<}
 use lib.ListN.{length, set, getD, take}
@@ -20,33 +18,29 @@ use base.Logic.{SProp, ent, sep, id⊢}
 use base.Fml.{GName, Fml, ftrue, flft, fat, froom, fdies}
 use prog.Memory.{Memory}
 use prog.Routine.{Routine}
-use prog.Wp.{Heap, Out, Env, afterSeq, afterBlock, afterTurn, Calls, Loops, Wp, atReturn, WpFn, Tables}
+use prog.Wp.{Heap, Env, afterTurn, Calls, Loops, WpFn, Tables}
 use ghost.Atoms.{Atoms, sem}
-use contract.Monad.{Fun, fact}
+use contract.Monad.{Fun}
 use contract.Lifetimes.{Lfts, Shares}
 use contract.Running.{givenOf, tables, tablesOf}
-use types.Kit.{Given, Item, ‵, raw, runs, anyQ, atRet, Sq, _⊛_, ⋆, some, later, _$_, _∵_, !, qed, by, move, keep, drop, use1, use2, use3, group, split, join, pick, rewrite, fsplit, fjoin, feqL, suffices, frame, await, done}
-use types.Run.{look, init, store, forget, stop, hop, fld, from, load, lit, addr, of-opd, bin, and-then, no-more, assigns, assigns-last, land, first, skips, jumps, blocks, branches, returns, enter, alloc1, alloc0, params1, pass1, pass0, free1, free0, exec, Below, again, loops}
+use types.Kit.{Given, Item, ‵, raw, runs, anyQ, atRet, Sq, _⊛_, ⋆, _$_, _∵_, !, qed, by, move, keep, drop, use1, use2, use3, group, split, join, rewrite, fsplit, fjoin, suffices, frame, done}
+use types.Run.{look, init, store, forget, stop, hop, fld, from, load, lit, addr, of-opd, bin, and-then, no-more, assigns, assigns-last, land, first, skips, jumps, blocks, branches, returns, enter, alloc1, alloc0, params1, pass1, pass0, exec, again, loops}
 use types.Part.{agg, whole, sub, look-in}
-use types.Tokens.{lft-new, lft-end}
-use sound.WpLaws.{FmC, fmOf, WpFn-mono}
+use sound.WpLaws.{FmC}
 use denote.RattleType.{RattleType, owns}
-use denote.Laws.{Is, shows}
+use denote.Laws.{Is}
 use denote.Memory.{pointee}
 use denote.Plain.{uint-makes, uint-vals, uint-tells, uint-lawful}
 use denote.Builtin.{usize, u32, i32}
 use denote.Ref.{RefT, now}
 use denote.Slice.{sliceTy, sliceVal, slice-vals, mut-slice-tells, shr-slice-tells, MutSlice, ShrSlice, Room, shr-slice-copy}
 use denote.Signature.{plain}
-use denote.Steps.{only, owned, peeks, heard, nothing}
+use denote.Steps.{only, owned, nothing}
 use denote.Struct.Laws as LL
 use denote.Triple.Entry.{onEntry}
-use denote.Triple.Spec.{Meets, tripleOf}
 use denote.Triple.Statement.{Contract, Triple}
-use denote.Triple.Call.{calls-at}
-use denote.Triple.Clauses.{ensured, lasts}
-use denote.Triple.Table.{entered, cited}
-use denote.Triple.Walked.{says, needs, Stays, stay-slice, stay-none-slice, stay-none, walkOf, goes-slice, goes-none-slice, goes-none, Walks, ends-at, walked, walk-meets}
+use denote.Triple.Table.{cited}
+use denote.Triple.Walked.{says, needs, Stays, stay-slice, stay-none-slice, stay-none, walkOf, goes-slice, goes-none-slice, goes-none, ends-at}
 use denote.Exit.{yes}
 use Rattle.table.specs.Words.{Words}
 use Rattle.table.specs.Stations.{isPoint}
@@ -56,7 +50,9 @@ use Rattle.record.specs.Blank.{none}
 use Rattle.vetting.specs.Tested.{entryOf, passesAs, nearerAmong, numbersPassing, Keepable}
 use Rattle.record.proofs.Candidate as T
 use Rattle.record.proofs.Candidate.Laws as T′
-use Rattle.walks.proofs.Again.{LentAgain, lends-again, comes-back}
+use Rattle.walks.proofs.Ends.{Called, leaves-said, closes}
+use Rattle.walks.proofs.Lends.{all-freed, relends, relent}
+use Rattle.walks.proofs.Turns.{NearerTo, NearerTo-wf, Turned}
 use Rattle.vetting.proofs.Passed.{Kept, kept-none, kept-next}
 use Rattle.record.proofs.record_at as record-at
 use Rattle.record.proofs.record_at.Symbol as record-at-def
@@ -108,14 +104,15 @@ abbrev stayed : Stays (f.ended .signature .params) (f.ended .kept)
 stayed = (stay-none-slice (0 ∷ []) tt (plain (λ _. i32)) yes, (stay-none-slice (1 ∷ []) tt (plain (λ _. R)) yes, (stay-none (λ _. usize) yes, (stay-none (λ _. usize) yes, (stay-slice (2 ∷ []) tt (plain (λ _. u32)), tt)))))
 
 -- the contracts that the proof cites
-abbrev RecordAt : {M : Type 1} (𝓤 : URA M) (H : Heap 𝓤) (A : Atoms 𝓤) (mem : Memory → SProp 𝓤) (run : Routine → Fun 𝓤) → Contract 𝓤
-RecordAt 𝓤 H A mem run = tripleOf 𝓤 H A record-at.signature (record-at.spec 𝓤 H A mem run)
+module _ {M : Type 1} (𝓤 : URA M) (H : Heap 𝓤) (A : Atoms 𝓤) (mem : Memory → SProp 𝓤) (run : Routine → Fun 𝓤) where
+  abbrev RecordAt : Contract 𝓤
+  RecordAt = Called 𝓤 H A record-at.ended (record-at.clauses 𝓤 H A mem run)
 
-abbrev NearerIn : {M : Type 1} (𝓤 : URA M) (H : Heap 𝓤) (A : Atoms 𝓤) (mem : Memory → SProp 𝓤) (run : Routine → Fun 𝓤) → Contract 𝓤
-NearerIn 𝓤 H A mem run = tripleOf 𝓤 H A nearer-in.signature (nearer-in.spec 𝓤 H A mem run)
+  abbrev NearerIn : Contract 𝓤
+  NearerIn = Called 𝓤 H A nearer-in.ended (nearer-in.clauses 𝓤 H A mem run)
 
-abbrev Noted : {M : Type 1} (𝓤 : URA M) (H : Heap 𝓤) (A : Atoms 𝓤) (mem : Memory → SProp 𝓤) (run : Routine → Fun 𝓤) → Contract 𝓤
-Noted 𝓤 H A mem run = tripleOf 𝓤 H A noted.signature (noted.spec 𝓤 H A mem run)
+  abbrev Noted : Contract 𝓤
+  Noted = Called 𝓤 H A noted.ended (noted.clauses 𝓤 H A mem run)
 
 module _ {M : Type 1} (𝓤 : URA M) (H : Heap 𝓤) (A : Atoms 𝓤) (W : Given 𝓤 H A) (mem : Memory → SProp 𝓤) (run : Routine → Fun 𝓤) (κs : Lfts 3) (qs : Shares 3)
     (tr : RefT (List ℤ)) (lr : RefT (List Candidate)) (m k : ℕ) (b o : ℕ) (γ : GName) (ys : List ℕ)
@@ -237,10 +234,7 @@ module _ {M : Type 1} (𝓤 : URA M) (H : Heap 𝓤) (A : Atoms 𝓤) (W : Given
       owned ! usize (Is usize) (uint-makes 𝓤 H A W w64) n _ (refl, g) $ move ! (1 ∷ 0 ∷ []) $ done !
 
   abbrev Nearer : Upto → Upto → Type 0
-  Nearer j i = m - j .0 < m - i .0
-
-  Nearer-wf : WellFounded Nearer
-  Nearer-wf = InvImage·wf (λ (i : Upto). m - i .0) (Nat·lt-wfRel .wf)
+  Nearer = NearerTo (λ (i : Upto). i .0) m
 
   module _ (𝓣 : Tables 𝓤 H) (fm : FmC 𝓤 H (W .laws) (𝓣 .C)) (known : Triple 𝓤 (𝓣 .C #vetting·keep·noted) (Noted 𝓤 H A mem run)) (known-record : Triple 𝓤 (𝓣 .C #record·record-at) (RecordAt 𝓤 H A mem run)) (known-near : Triple 𝓤 (𝓣 .C #vetting·near·nearer-in) (NearerIn 𝓤 H A mem run)) (l₀ l₁ l₂ l₃ l₄ l₅ l₆ l₇ l₈ l₉ l₁₀ l₁₁ l₁₂ : ℕ) where
     abbrev C : Calls 𝓤 H
@@ -262,54 +256,40 @@ module _ {M : Type 1} (𝓤 : URA M) (H : Heap 𝓤) (A : Atoms 𝓤) (W : Given
         ∷ ‵ (Own (i .3)) ∷ ‵ (flft (κs .1 .1 .0) (qs .1 .1 .0)) ∷ ‵ (flft (κs .0) (qs .0)) ∷ ‵ (flft (κs .1 .0) (qs .1 .0))
         ∷ ‵ Tabled ∷ ‵ Listed ∷ []
 
-    -- a turn's postcondition: it ends nearer to m, or the loop is left and the rest of the body runs
-    abbrev Turned : Upto → Out → SProp 𝓤
-    Turned i = afterTurn 𝓤 H (Below 𝓤 H A Nearer At i) (afterBlock 𝓤 H (afterSeq 𝓤 H (Wp 𝓤 H C Λ En mir′.t-4 (atReturn 𝓤 H En Post)) (atReturn 𝓤 H En Post)))
-
-    turns : (i : Upto) → Sq W (At i) (runs C Λ En mir′.turn-1 (anyQ (Turned i)))
+    turns : (i : Upto) → Sq W (At i) (runs C Λ En mir′.turn-1 (anyQ (Turned 𝓤 H A Nearer At C Λ En mir′.t-4 Post i)))
     unfolding afterTurn
     turns i =
         assigns ! (bin ! (load ! (from ! (stop !)) (look ! 10 refl)) (load ! (from ! (stop !)) (look ! 18 refl)) tt) (from ! (stop !)) (init ! 4 refl (tt, tt)) $
         first ! $ branches ! (load ! (from ! (stop !)) (look ! 4 refl))
-        (λ less. skips ! $ exec ! C Λ En more (anyQ (Turned i)) $
+        (λ less. skips ! $ exec ! C Λ En more (anyQ (Turned 𝓤 H A Nearer At C Λ En mir′.t-4 Post i)) $
         -- record i is read back: the list is passed on as a copy
         move ! (31 ∷ []) $ use1 W (‵ Listed ⊛ ‵ Listed) (shr-slice-copy 𝓤 H A W (named 1) (κs .1 .0) R .twice lr (s₂ ∷ [])) $ split ! $ move ! (31 ∷ 0 ∷ []) $ use2 W (raw (RecordAt 𝓤 H A mem run .pre (at-record (i .0)))) (goes-record (i .0) (within less)) $
-        calls-at ! fm (RecordAt 𝓤 H A mem run) known-record (at-record (i .0)) (and-then ! (load ! (from ! (stop !)) (look ! 22 refl)) (and-then ! (load ! (from ! (stop !)) (look ! 12 refl)) (no-more !))) (λ w.
-        use1 W (later (some (λ (c : Candidate). ((‵ (flft (κs .1 .0) (qs .1 .0)) ⊛ ‵ ftrue) ⊛ ‵ (R .own c (w ∷ []))) ⊛ raw (ensured 𝓤 H A record-at.ended (record-at.clauses 𝓤 H A mem run) (κs .1 .0, tt) (record-args (i .0)) tt c)))) (id⊢ 𝓤 _) $ await ! tt $ pick ! (λ c. split ! $ move ! (1 ∷ []) $
-        use1 W (some (λ (ws : Unit {0} × (Unit {0} × Unit {0})). ‵ (lasts record-at.ended (κs .1 .0, tt) (record-args (i .0)) ws) ⊛ raw (fact 𝓤 (c ≡ getD cs (i .0) none)))) (id⊢ 𝓤 _) $ pick ! (λ ws. split ! $ drop ! $ heard ! (c ≡ getD cs (i .0) none) (λ e.
-        split ! $ split ! $ move ! (2 ∷ []) $ peeks ! R (Is R) (shows 𝓤 H A R) c (w ∷ []) (λ is.
-        land ! (from ! (stop !)) (init ! 12 refl (LL.lawful T.the-type T′.the-laws 𝓤 H A W .typed c _ is .0)) $
+        leaves-said ! fm record-at.ended (record-at.clauses 𝓤 H A mem run) known-record (at-record (i .0)) (λ c ls. c ≡ getD cs (i .0) none) (λ c ls. id⊢ 𝓤 _) (and-then ! (load ! (from ! (stop !)) (look ! 22 refl)) (and-then ! (load ! (from ! (stop !)) (look ! 12 refl)) (no-more !))) (λ w c ls e is.
+        land ! (from ! (stop !)) (init ! 11 refl (LL.lawful T.the-type T′.the-laws 𝓤 H A W .typed c _ is .0)) $
         -- those that are nearer to it are counted: the list is passed on as a copy, and c is made again of what it is
-        move ! (3 ∷ []) $ use1 W (‵ Listed ⊛ ‵ Listed) (shr-slice-copy 𝓤 H A W (named 1) (κs .1 .0) R .twice lr (s₂ ∷ [])) $ split ! $ move ! (3 ∷ 0 ∷ 2 ∷ []) $ use3 W (raw (NearerIn 𝓤 H A mem run .pre (to-near c w))) (goes-near (i .0) c w (within less) e) $
-        calls-at ! fm (NearerIn 𝓤 H A mem run) known-near (to-near c w) (and-then ! (load ! (from ! (stop !)) (look ! 23 refl)) (and-then ! (load ! (from ! (stop !)) (look ! 21 refl)) (and-then ! (load ! (from ! (stop !)) (look ! 11 refl)) (no-more !)))) (λ v.
-        use1 W (later (some (λ (near : ℕ). ((‵ (flft (κs .1 .0) (qs .1 .0)) ⊛ ‵ ftrue) ⊛ ‵ (usize .own near (v ∷ []))) ⊛ raw (ensured 𝓤 H A nearer-in.ended (nearer-in.clauses 𝓤 H A mem run) (κs .1 .0, tt) (near-args c) tt near)))) (id⊢ 𝓤 _) $ await ! tt $ pick ! (λ near. split ! $ move ! (1 ∷ []) $
-        use1 W (some (λ (vs : Unit {0} × (Unit {0} × (Unit {0} × Unit {0}))). ‵ (lasts nearer-in.ended (κs .1 .0, tt) (near-args c) vs) ⊛ raw (fact 𝓤 (near ≡ nearerAmong (take m cs) c)))) (id⊢ 𝓤 _) $ pick ! (λ vs. split ! $ drop ! $ heard ! (near ≡ nearerAmong (take m cs) c) (λ en.
-        split ! $ split ! $ move ! (2 ∷ []) $ peeks ! usize (Is usize) (shows 𝓤 H A usize) near (v ∷ []) (λ isn.
-        land ! (from ! (stop !)) (init ! 11 refl (uint-lawful 𝓤 H A W w64 .typed near _ isn .0)) $
-        rewrite ! 11 (λ (z : Val). ‵ (fat fullShare word l₉ 0 z)) (ap only (isn .0)) refl $
-        drop ! $ move ! (3 ∷ []) $ drop ! $ owned ! R (Is R) ((LL.makes T.the-type T′.the-plain) 𝓤 H A) c _ is $
-        assigns ! (addr ! (from ! (fld ! refl (hop ! (look-in ! 18 (sub ! 0 refl (whole !))) (stop !))))) (from ! (stop !)) (init ! 6 refl (tt, tt)) $
-        assigns ! (agg ! (and-then ! (load ! (from ! (stop !)) (look ! 6 refl)) (and-then ! (load ! (from ! (fld ! refl (stop !))) (look-in ! 18 (sub ! 1 refl (whole !)))) (no-more !)))) (from ! (stop !)) (init ! 4 refl (tt, (tt, (record { fits = room .0 }, tt)))) $
+        move ! (2 ∷ []) $ use1 W (‵ Listed ⊛ ‵ Listed) (shr-slice-copy 𝓤 H A W (named 1) (κs .1 .0) R .twice lr (s₂ ∷ [])) $ split ! $ move ! (3 ∷ 0 ∷ 2 ∷ []) $ use3 W (raw (NearerIn 𝓤 H A mem run .pre (to-near c w))) (goes-near (i .0) c w (within less) e) $
+        leaves-said ! fm nearer-in.ended (nearer-in.clauses 𝓤 H A mem run) known-near (to-near c w) (λ near ls. near ≡ nearerAmong (take m cs) c) (λ near ls. id⊢ 𝓤 _) (and-then ! (load ! (from ! (stop !)) (look ! 22 refl)) (and-then ! (load ! (from ! (stop !)) (look ! 20 refl)) (and-then ! (load ! (from ! (stop !)) (look ! 10 refl)) (no-more !)))) (λ v near ls en isn.
+        land ! (from ! (stop !)) (init ! 9 refl (uint-lawful 𝓤 H A W w64 .typed near _ isn .0)) $
+        rewrite ! 9 (λ (z : Val). ‵ (fat fullShare word l₉ 0 z)) (ap only (isn .0)) refl $
+        drop ! $ owned ! R (Is R) ((LL.makes T.the-type T′.the-plain) 𝓤 H A) c _ is $
+        assigns ! (addr ! (from ! (fld ! refl (hop ! (look-in ! 17 (sub ! 0 refl (whole !))) (stop !))))) (from ! (stop !)) (init ! 5 refl (tt, tt)) $
+        assigns ! (agg ! (and-then ! (load ! (from ! (stop !)) (look ! 5 refl)) (and-then ! (load ! (from ! (fld ! refl (stop !))) (look-in ! 17 (sub ! 1 refl (whole !)))) (no-more !)))) (from ! (stop !)) (init ! 3 refl (tt, (tt, (record { fits = room .0 }, tt)))) $
         -- the kept numbers are lent again, for a lifetime ν of the call, and the table is passed on as a copy
-        lft-new ! tt (λ ν. move ! (31 ∷ 32 ∷ []) $ use2 W (later (some (λ (δ : GName). ‵ (MutSlice (named 2) (ν ∷ []) u32 .own (x δ (i .3)) (sliceVal (b, o) (length (i .3)) ∷ [])) ⊛ ‵ (LentAgain u32 (κs .1 .1 .0) (ν ∷ []) (qs .1 .1 .0) γ b o δ (i .3))))) (lends-again u32 (κs .1 .1 .0) (ν ∷ []) (qs .1 .1 .0) γ b o 𝓤 H A W (named 2) (named 2) (i .3)) $ await ! tt $ pick ! (λ δ. split ! $
-        rewrite ! 0 (λ (j : ℕ). ‵ (MutSlice (named 2) (ν ∷ []) u32 .own (x δ (i .3)) (sliceVal (b, o) j ∷ []))) (i .4 .long) refl $ move ! (34 ∷ []) $ use1 W (‵ Tabled ⊛ ‵ Tabled) (shr-slice-copy 𝓤 H A W (named 0) (κs .0) i32 .twice tr (s₁ ∷ [])) $ split ! $ move ! (35 ∷ 4 ∷ 0 ∷ 5 ∷ 2 ∷ []) $ group ! 5 $
+        move ! (29 ∷ 30 ∷ []) $ relends ! tt u32 (κs .1 .1 .0) (qs .1 .1 .0) γ b o (named 2) (i .3) (i .4 .long) (λ ν δ.
+        move ! (33 ∷ []) $ use1 W (‵ Tabled ⊛ ‵ Tabled) (shr-slice-copy 𝓤 H A W (named 0) (κs .0) i32 .twice tr (s₁ ∷ [])) $ split ! $ move ! (34 ∷ 2 ∷ 0 ∷ 5 ∷ 3 ∷ []) $ group ! 5 $
         use1 W (raw (Noted 𝓤 H A mem run .pre (to ν δ i c w near))) (goes ν δ i c w near (isn .1) less e en) $
-        calls-at ! fm (Noted 𝓤 H A mem run) known (to ν δ i c w near) (and-then ! (load ! (from ! (stop !)) (look ! 28 refl)) (and-then ! (load ! (from ! (stop !)) (look ! 14 refl)) (and-then ! (load ! (from ! (stop !)) (look ! 12 refl)) (and-then ! (load ! (from ! (stop !)) (look ! 22 refl)) (and-then ! (load ! (from ! (stop !)) (look ! 6 refl)) (and-then ! (load ! (from ! (stop !)) (look ! 18 refl)) (no-more !))))))) (λ u.
-        use1 W (later (some (λ (r : ℕ). ((‵ (flft (κs .0) (qs .0)) ⊛ ‵ (flft (ν ∷ []) fullShare) ⊛ ‵ ftrue) ⊛ ‵ (usize .own r (u ∷ []))) ⊛ raw (ensured 𝓤 H A noted.ended (noted.clauses 𝓤 H A mem run) (κs .0, (ν ∷ [], tt)) (passed δ i c near) tt r)))) (id⊢ 𝓤 _) $ await ! tt $ pick ! (λ r. split ! $ move ! (1 ∷ []) $
-        use1 W (some (λ (ws : Unit {0} × (Unit {0} × (Unit {0} × (Unit {0} × (List ℕ × (Unit {0} × Unit {0})))))). ‵ (lasts noted.ended (κs .0, (ν ∷ [], tt)) (passed δ i c near) ws) ⊛ raw (fact 𝓤 (NotedAs i c r (ws .1 .1 .1 .1 .0))))) (id⊢ 𝓤 _) $ pick ! (λ ws. split ! $ move ! (1 ∷ []) $ heard ! (NotedAs i c r (ws .1 .1 .1 .1 .0)) (λ f.
-        fsplit ! $ drop ! $ fsplit ! $ drop ! $ fsplit ! $ drop ! $ fsplit ! $ drop ! $ fsplit ! $ fsplit ! $ move ! (1 ∷ []) $ feqL ! (λ l.
-        move ! (2 ∷ []) $ split ! $ split ! $ move ! (1 ∷ []) $ split ! $ move ! (3 ∷ []) $ peeks ! usize (Is usize) (shows 𝓤 H A usize) r (u ∷ []) (λ is′.
-        land ! (from ! (stop !)) (store ! 23 refl (uint-lawful 𝓤 H A W w64 .typed r _ is′ .0)) $
-        rewrite ! 23 (λ (v : Val). ‵ (fat fullShare word l₆ 0 v)) (ap only (is′ .0)) refl $
-        move ! (1 ∷ []) $ lft-end ! tt $ move ! (0 ∷ 7 ∷ 4 ∷ []) $ use3 W (later (‵ (MutSlice (named 2) (κs .1 .1 .0) u32 .own (x γ (ws .1 .1 .1 .1 .0)) (sliceVal (b, o) (length (i .3)) ∷ [])) ⊛ ‵ (flft (κs .1 .1 .0) (qs .1 .1 .0)))) (comes-back u32 (κs .1 .1 .0) (ν ∷ []) (qs .1 .1 .0) γ b o 𝓤 H A W (named 2) (named 2) (i .3) δ (ws .1 .1 .1 .1 .0) (subst (Room u32) (sym (i .4 .long)) room) l) $ await ! tt $ split ! $
-        rewrite ! 0 (λ (j : ℕ). ‵ (MutSlice (named 2) (κs .1 .1 .0) u32 .own (x γ (ws .1 .1 .1 .1 .0)) (sliceVal (b, o) j ∷ []))) (sym l) refl $
-        assigns-last ! (bin ! (load ! (from ! (stop !)) (look ! 20 refl)) (lit ! tt) (record { fits = fits-next less })) (from ! (stop !)) (store ! 20 refl (tt, record { fits = fits-next less })) $
-        forget ! 10 refl $ forget ! 12 refl $ forget ! 14 refl $ forget ! 16 refl $ forget ! 18 refl $
-        keep ! (10 ∷ 11 ∷ 12 ∷ 13 ∷ 14 ∷ 15 ∷ 16 ∷ 17 ∷ 18 ∷ 19 ∷ 20 ∷ 21 ∷ 22 ∷ 23 ∷ 24 ∷ 25 ∷ 26 ∷ 27 ∷ 28 ∷ 29 ∷ 30 ∷ 31 ∷ 32 ∷ 33 ∷ 34 ∷ 35 ∷ 0 ∷ 1 ∷ 4 ∷ 7 ∷ 6 ∷ 9 ∷ []) $ again ! Nearer At i (next less c r (ws .1 .1 .1 .1 .0) e f) (add-one-dec m (i .0) (ltb→lt (i .0) m less)))))))))))))))))))))
+        leaves-said ! fm noted.ended (noted.clauses 𝓤 H A mem run) known (to ν δ i c w near) (λ r ls. NotedAs i c r (ls .1 .1 .1 .1 .0)) (λ r ls. id⊢ 𝓤 _) (and-then ! (load ! (from ! (stop !)) (look ! 27 refl)) (and-then ! (load ! (from ! (stop !)) (look ! 13 refl)) (and-then ! (load ! (from ! (stop !)) (look ! 11 refl)) (and-then ! (load ! (from ! (stop !)) (look ! 21 refl)) (and-then ! (load ! (from ! (stop !)) (look ! 5 refl)) (and-then ! (load ! (from ! (stop !)) (look ! 17 refl)) (no-more !))))))) (λ u r ls f is′.
+        -- [the result; both tokens; the numbers' last; the table; what is kept while they are lent; the list's token; the list; _12; …]
+        land ! (from ! (stop !)) (store ! 20 refl (uint-lawful 𝓤 H A W w64 .typed r _ is′ .0)) $
+        rewrite ! 20 (λ (v : Val). ‵ (fat fullShare word l₆ 0 v)) (ap only (is′ .0)) refl $
+        move ! (2 ∷ 5 ∷ 3 ∷ []) $ relent ! tt u32 (κs .1 .1 .0) (qs .1 .1 .0) γ b o (named 2) (i .3) (subst (Room u32) (sym (i .4 .long)) room) ν δ (ls .1 .1 .1 .1 .0) (λ l.
+        assigns-last ! (bin ! (load ! (from ! (stop !)) (look ! 17 refl)) (lit ! tt) (record { fits = fits-next less })) (from ! (stop !)) (store ! 17 refl (tt, record { fits = fits-next less })) $
+        forget ! 7 refl $ forget ! 9 refl $ forget ! 11 refl $ forget ! 13 refl $ forget ! 15 refl $
+        keep ! (7 ∷ 8 ∷ 9 ∷ 10 ∷ 11 ∷ 12 ∷ 13 ∷ 14 ∷ 15 ∷ 16 ∷ 17 ∷ 18 ∷ 19 ∷ 20 ∷ 21 ∷ 22 ∷ 23 ∷ 24 ∷ 25 ∷ 26 ∷ 27 ∷ 28 ∷ 29 ∷ 30 ∷ 31 ∷ 32 ∷ 0 ∷ 1 ∷ 3 ∷ 5 ∷ 4 ∷ 6 ∷ []) $ again ! Nearer At i (next less c r (ls .1 .1 .1 .1 .0) e f) (add-one-dec m (i .0) (ltb→lt (i .0) m less))))))))
         (λ over. jumps ! $ exec ! C Λ En mir′.t-4 (atRet En Post) $
         assigns ! (of-opd ! (load ! (from ! (stop !)) (look ! 12 refl))) (from ! (stop !)) (init ! 24 refl (tt, record { fits = few i })) $
         returns ! (look ! 24 refl) $ forget ! 4 refl $ forget ! 10 refl $ forget ! 12 refl $ forget ! 14 refl $ forget ! 16 refl $ forget ! 18 refl $ forget ! 20 refl $ forget ! 22 refl $ forget ! 24 refl $
-        move ! (24 ∷ 25 ∷ []) $ free1 ! $ move ! (22 ∷ 23 ∷ []) $ free1 ! $ move ! (20 ∷ 21 ∷ []) $ free1 ! $ move ! (18 ∷ 19 ∷ []) $ free1 ! $ move ! (16 ∷ 17 ∷ []) $ free1 ! $ move ! (14 ∷ 15 ∷ []) $ free1 ! $ move ! (12 ∷ 13 ∷ []) $ free1 ! $ move ! (10 ∷ 11 ∷ []) $ free1 ! $ move ! (8 ∷ 9 ∷ []) $ free1 ! $ move ! (6 ∷ 7 ∷ []) $ free1 ! $ move ! (4 ∷ 5 ∷ []) $ free1 ! $ move ! (2 ∷ 3 ∷ []) $ free1 ! $ free1 ! $ free0 ! $
+        move ! (24 ∷ 25 ∷ 22 ∷ 23 ∷ 20 ∷ 21 ∷ 18 ∷ 19 ∷ 16 ∷ 17 ∷ 14 ∷ 15 ∷ 12 ∷ 13 ∷ 10 ∷ 11 ∷ 8 ∷ 9 ∷ 6 ∷ 7 ∷ 4 ∷ 5 ∷ 2 ∷ 3 ∷ 0 ∷ 1 ∷ []) $ all-freed ! $
         by ! (exits (i .2) (i .3) (few i) (i .4 .long) (at-end over)))
       where
         within : Holds (ltb (i .0) m) → i .0 < m
@@ -351,33 +331,17 @@ module _ {M : Type 1} (𝓤 : URA M) (H : Heap 𝓤) (A : Atoms 𝓤) (W : Given
       move ! (26 ∷ []) $ split ! $ move ! (1 ∷ []) $ split ! $ move ! (1 ∷ []) $ split ! $ move ! (30 ∷ []) $ fsplit ! $ move ! (1 ∷ []) $ fsplit ! $ move ! (1 ∷ []) $ fsplit ! $ move ! (1 ∷ []) $ fsplit ! $ move ! (1 ∷ []) $ fsplit ! $ keep ! (10 ∷ 11 ∷ 12 ∷ 13 ∷ 14 ∷ 15 ∷ 16 ∷ 17 ∷ 18 ∷ 19 ∷ 20 ∷ 21 ∷ 22 ∷ 23 ∷ 24 ∷ 25 ∷ 26 ∷ 27 ∷ 28 ∷ 29 ∷ 30 ∷ 31 ∷ 32 ∷ 33 ∷ 34 ∷ 35 ∷ 0 ∷ 6 ∷ 9 ∷ 8 ∷ 5 ∷ 4 ∷ []) $
       assigns ! (of-opd ! (lit ! tt)) (from ! (stop !)) (init ! 12 refl (tt, record { fits = lit< tt })) $
       assigns ! (of-opd ! (lit ! tt)) (from ! (stop !)) (init ! 10 refl (tt, record { fits = lit< tt })) $
-      first ! $ blocks ! $ loops ! 𝓣 Nearer Nearer-wf (At 𝓣 fm known known-record known-near l₀ l₁ l₂ l₃ l₄ l₅ l₆ l₇ l₈ l₉ l₁₀ l₁₁ l₁₂) (turns 𝓣 fm known known-record known-near l₀ l₁ l₂ l₃ l₄ l₅ l₆ l₇ l₈ l₉ l₁₀ l₁₁ l₁₂) (0, zero-le, 0, ys, kept-none ws k cs ys))))))))))))))
-
-module _ {M : Type 1} (𝓤 : URA M) (H : Heap 𝓤) (A : Atoms 𝓤) (W : Given 𝓤 H A) (mem : Memory → SProp 𝓤) (run : Routine → Fun 𝓤) where
-  keep-passing-walks : (𝓣 : Tables 𝓤 H) → FmC 𝓤 H (W .laws) (𝓣 .C) → Triple 𝓤 (𝓣 .C #vetting·keep·noted) (Noted 𝓤 H A mem run) → Triple 𝓤 (𝓣 .C #record·record-at) (RecordAt 𝓤 H A mem run) → Triple 𝓤 (𝓣 .C #vetting·near·nearer-in) (NearerIn 𝓤 H A mem run)
-      → Walks 𝓤 H A f.ended stayed (WpFn 𝓤 H (𝓣 .C) (𝓣 .Λ) code.function) (f.clauses 𝓤 H A mem run)
-  keep-passing-walks 𝓣 fm known known-record known-near = walked 𝓤 H A f.ended stayed (f.clauses 𝓤 H A mem run) (WpFn 𝓤 H (𝓣 .C) (𝓣 .Λ) code.function)
-      (λ κs. (slice-vals, (slice-vals, (uint-vals w64, (uint-vals w64, (slice-vals, tt))))))
-      (λ κs. (shr-slice-tells (named 0) (κs .0) i32, (shr-slice-tells (named 1) (κs .1 .0) R, (uint-tells w64, (uint-tells w64, (mut-slice-tells (named 2) (κs .1 .1 .0) u32, tt))))))
-      (λ κs qs bounds a g are. needs 𝓤 (Keepable (now (a .0)) (now (a .1 .0)) (a .1 .1 .1 .0) (a .1 .1 .0) (length (now (a .1 .1 .1 .1 .0)))) _ (λ pre.
-      walk 𝓤 H A W mem run κs qs (a .0) (a .1 .0) (a .1 .1 .0) (a .1 .1 .1 .0) (a .1 .1 .1 .1 .0 .ptr .0) (a .1 .1 .1 .1 .0 .ptr .1) (a .1 .1 .1 .1 .0 .name) (a .1 .1 .1 .1 .0 .now)
-      (are .0 .0 .1) (are .1 .0 .0 .1) (are .1 .1 .0 .1) (are .1 .1 .1 .0 .1) (are .1 .1 .1 .1 .0 .0 .1) pre 𝓣 fm known known-record known-near))
-
-keep-passing-meets : {M : Type 1} (𝓤 : URA M) (H : Heap 𝓤) (A : Atoms 𝓤) → Given 𝓤 H A → (mem : Memory → SProp 𝓤) (run : Routine → Fun 𝓤) (𝓣 : Tables 𝓤 H) → Triple 𝓤 (𝓣 .C #vetting·keep·noted) (Noted 𝓤 H A mem run)
-    → Triple 𝓤 (𝓣 .C #record·record-at) (RecordAt 𝓤 H A mem run) → Triple 𝓤 (𝓣 .C #vetting·near·nearer-in) (NearerIn 𝓤 H A mem run) → Meets 𝓤 H A f.signature (WpFn 𝓤 H (𝓣 .C) (𝓣 .Λ) code.function) (f.spec 𝓤 H A mem run)
-keep-passing-meets 𝓤 H A W mem run 𝓣 known known-record known-near =
-    walk-meets 𝓤 H A f.ended stayed W (
-      goes-none-slice 𝓤 H A W 3 (0 ∷ []) tt (plain (λ _. i32)) yes,
-      (goes-none-slice 𝓤 H A W 3 (1 ∷ []) tt (plain (λ _. R)) yes, (goes-none 𝓤 H A W 3 (λ _. usize) yes (λ κs x f. refl), (goes-none 𝓤 H A W 3 (λ _. usize) yes (λ κs x f. refl), (goes-slice 𝓤 H A W 3 2 tt (plain (λ _. u32)), tt)))),
-    ) (f.clauses 𝓤 H A mem run)
-    (WpFn 𝓤 H (𝓣 .C) (𝓣 .Λ) code.function) (WpFn-mono 𝓤 H (W .laws) 𝓣 code.function) (keep-passing-walks 𝓤 H A W mem run 𝓣 (fmOf 𝓤 H (W .laws) 𝓣) known known-record known-near)
+      first ! $ blocks ! $ loops ! 𝓣 Nearer (NearerTo-wf (λ (i : Upto). i .0) m) (At 𝓣 fm known known-record known-near l₀ l₁ l₂ l₃ l₄ l₅ l₆ l₇ l₈ l₉ l₁₀ l₁₁ l₁₂) (turns 𝓣 fm known known-record known-near l₀ l₁ l₂ l₃ l₄ l₅ l₆ l₇ l₈ l₉ l₁₀ l₁₁ l₁₂) (0, zero-le, 0, ys, kept-none ws k cs ys))))))))))))))
 
 pub keep-passing-spec : {M : Type 1} → stated.statement M
 unfolding code.routine tablesOf
 keep-passing-spec 𝓤 H 𝓜 𝓖 𝓡 =
-    entered 𝓤 H (tripleOf 𝓤 H (𝓖 .A) f.signature (f.spec 𝓤 H (𝓖 .A) (𝓜 .mem) (𝓡 .run)))
-    (tables 𝓤 H 𝓜 𝓡 code.env .C) (tables 𝓤 H 𝓜 𝓡 code.env .Λ) #vetting·keep·keep-passing code.function (code.unfolded 𝓤 H 𝓜 𝓡)
-    (keep-passing-meets 𝓤 H (𝓖 .A) (givenOf 𝓤 H 𝓜 𝓖) (𝓜 .mem) (𝓡 .run) (tablesOf 𝓤 H 𝓜 (tables 𝓤 H 𝓜 𝓡 code.env))
-    (cited 𝓤 H (Noted 𝓤 H (𝓖 .A) (𝓜 .mem) (𝓡 .run)) 𝓜 𝓡 code.env #vetting·keep·noted noted-def.routine code.calls-vetting·keep·noted (noted-thm.met 𝓤 H 𝓜 𝓖 𝓡))
-    (cited 𝓤 H (RecordAt 𝓤 H (𝓖 .A) (𝓜 .mem) (𝓡 .run)) 𝓜 𝓡 code.env #record·record-at record-at-def.routine code.calls-record·record-at (record-at-thm.met 𝓤 H 𝓜 𝓖 𝓡))
-    (cited 𝓤 H (NearerIn 𝓤 H (𝓖 .A) (𝓜 .mem) (𝓡 .run)) 𝓜 𝓡 code.env #vetting·near·nearer-in nearer-in-def.routine code.calls-vetting·near·nearer-in (nearer-in-thm.met 𝓤 H 𝓜 𝓖 𝓡)))
+    let W = givenOf 𝓤 H 𝓜 𝓖 in
+    let noted-met = cited 𝓤 H (Noted 𝓤 H (𝓖 .A) (𝓜 .mem) (𝓡 .run)) 𝓜 𝓡 code.env noted-def.name noted-def.routine code.calls-vetting·keep·noted (noted-thm.met 𝓤 H 𝓜 𝓖 𝓡) in
+    let record-met = cited 𝓤 H (RecordAt 𝓤 H (𝓖 .A) (𝓜 .mem) (𝓡 .run)) 𝓜 𝓡 code.env record-at-def.name record-at-def.routine code.calls-record·record-at (record-at-thm.met 𝓤 H 𝓜 𝓖 𝓡) in
+    let near-met = cited 𝓤 H (NearerIn 𝓤 H (𝓖 .A) (𝓜 .mem) (𝓡 .run)) 𝓜 𝓡 code.env nearer-in-def.name nearer-in-def.routine code.calls-vetting·near·nearer-in (nearer-in-thm.met 𝓤 H 𝓜 𝓖 𝓡) in
+    closes 𝓤 H 𝓜 𝓖 𝓡 code.env #vetting·keep·keep-passing code.function (code.unfolded 𝓤 H 𝓜 𝓡) f.ended stayed (goes-none-slice 𝓤 H (𝓖 .A) W 3 (0 ∷ []) tt (plain (λ _. i32)) yes, (goes-none-slice 𝓤 H (𝓖 .A) W 3 (1 ∷ []) tt (plain (λ _. R)) yes, (goes-none 𝓤 H (𝓖 .A) W 3 (λ _. usize) yes (λ κs x f. refl), (goes-none 𝓤 H (𝓖 .A) W 3 (λ _. usize) yes (λ κs x f. refl), (goes-slice 𝓤 H (𝓖 .A) W 3 2 tt (plain (λ _. u32)), tt)))))
+    (f.clauses 𝓤 H (𝓖 .A) (𝓜 .mem) (𝓡 .run)) (λ κs. (slice-vals, (slice-vals, (uint-vals w64, (uint-vals w64, (slice-vals, tt))))))
+    (λ κs. (shr-slice-tells (named 0) (κs .0) i32, (shr-slice-tells (named 1) (κs .1 .0) R, (uint-tells w64, (uint-tells w64, (mut-slice-tells (named 2) (κs .1 .1 .0) u32, tt))))))
+    (λ fm x g are. needs 𝓤 _ _ (λ pre. walk 𝓤 H (𝓖 .A) W (𝓜 .mem) (𝓡 .run) (x .0) (x .1) (x .3 .0) (x .3 .1 .0) (x .3 .1 .1 .0) (x .3 .1 .1 .1 .0) (x .3 .1 .1 .1 .1 .0 .ptr .0) (x .3 .1 .1 .1 .1 .0 .ptr .1) (x .3 .1 .1 .1 .1 .0 .name) (x .3 .1 .1 .1 .1 .0 .now)
+    (are .0 .0 .1) (are .1 .0 .0 .1) (are .1 .1 .0 .1) (are .1 .1 .1 .0 .1) (are .1 .1 .1 .1 .0 .0 .1) pre (tablesOf 𝓤 H 𝓜 (tables 𝓤 H 𝓜 𝓡 code.env)) fm noted-met record-met near-met))
