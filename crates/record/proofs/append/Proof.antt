@@ -40,7 +40,7 @@ use Rattle.record.specs.Blank.{none}
 use Rattle.record.proofs.Candidate as T
 use Rattle.record.proofs.Candidate.Laws as T′
 use Rattle.walks.proofs.Ends.{closes}
-use Rattle.walks.proofs.Lends.{all-freed}
+use Rattle.walks.proofs.Frees.{frees-at}
 use Rattle.record.proofs.append.Key.{name as #record·append}
 use Rattle.record.proofs.append as append
 use Rattle.record.proofs.append.Statement as stated
@@ -100,8 +100,7 @@ module _ {M : Type 1} (𝓤 : URA M) (H : Heap 𝓤) (A : Atoms 𝓤) (W : Given
         move ! (1 ∷ []) $ drop ! $ owned ! R (Is R) ((LL.makes T.the-type T′.the-plain) 𝓤 H A) v _ gv $ move ! (1 ∷ 0 ∷ []) $ elem-put ! R fullShare ys i v (T′.lowered v ∷ []) b o l $
         closes-slice ! tt R ys zs (length-set ys i v) b o $
         assigns ! (of-opd ! (unit-lit !)) (from ! (stop !)) (init ! 16 refl (tt, tt)) $
-        returns ! (look ! 16 refl) $ forget ! 6 refl $ forget ! 8 refl $ forget ! 10 refl $ forget ! 12 refl $ forget ! 14 refl $ forget ! 16 refl $
-        move ! (16 ∷ 17 ∷ 14 ∷ 15 ∷ 12 ∷ 13 ∷ 10 ∷ 11 ∷ 8 ∷ 9 ∷ 6 ∷ 7 ∷ []) $ all-freed ! $
+        returns ! (look ! 16 refl) $ frees-at ! 6 refl $
         keep ! (0 ∷ 1 ∷ 2 ∷ 5 ∷ []) $ by ! (exits gn))))))))
 
 pub append-spec : {M : Type 1} → stated.statement M

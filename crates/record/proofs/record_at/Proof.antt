@@ -38,7 +38,7 @@ use Rattle.record.specs.Blank.{none}
 use Rattle.record.proofs.Candidate as T
 use Rattle.record.proofs.Candidate.Laws as T′
 use Rattle.walks.proofs.Ends.{closes}
-use Rattle.walks.proofs.Lends.{all-freed}
+use Rattle.walks.proofs.Frees.{frees-at}
 use Rattle.record.proofs.record_at.Key.{name as #record·record-at}
 use Rattle.record.proofs.record_at as f
 use Rattle.record.proofs.record_at.Statement as stated
@@ -93,8 +93,7 @@ module _ {M : Type 1} (𝓤 : URA M) (H : Heap 𝓤) (A : Atoms 𝓤) (W : Given
         assigns ! (of-opd ! (load ! (from ! (hop ! (look ! 11 refl) (stop !))) (look-raw ! 0 refl))) (from ! (stop !)) (init ! 9 refl wt) $
         assigns ! (of-opd ! (load ! (from ! (stop !)) (look ! 9 refl))) (from ! (stop !)) (init ! 19 refl wt) $
         elem-back ! R q′ ys i none (T′.lowered elem ∷ []) b o l $ shuts-slice ! tt R q′ ys b o $
-        returns ! (look ! 16 refl) $ forget ! 6 refl $ forget ! 8 refl $ forget ! 10 refl $ forget ! 12 refl $ forget ! 14 refl $ forget ! 16 refl $
-        move ! (16 ∷ 17 ∷ 14 ∷ 15 ∷ 12 ∷ 13 ∷ 10 ∷ 11 ∷ 8 ∷ 9 ∷ 6 ∷ 7 ∷ []) $ all-freed ! $
+        returns ! (look ! 16 refl) $ frees-at ! 6 refl $
         move ! (3 ∷ 1 ∷ []) $ fjoin ! $ move ! (3 ∷ 0 ∷ []) $ fjoin ! $ move ! (3 ∷ []) $ fsplit ! $ keep ! (3 ∷ 2 ∷ 0 ∷ []) $ by ! (exits g)))))))))
 
 pub record-at-spec : {M : Type 1} → stated.statement M
