@@ -1,5 +1,6 @@
 -- The locals of a function are freed at once, whatever they hold. It says nothing of the crate.
 --     frees-at         they lie one after the other from entry n on, the last of them first: `refl` shows it
+--     sinks            the first entry lies n entries further down, as a local that was lent lies among the others again
 -- Assumes `Given`.
 use mathlib.Core.Path.{_≡_, sym, subst}
 use Prim.Native.Nat.{ℕ, zero, suc}
@@ -13,7 +14,7 @@ use base.Logic.{SProp, ent, sep, emp, id⊢, via, comm∗, assoc∗, assoc′, m
 use base.Fml.{Fml, ftrue, ffalse, feq, flt, fsep, fand, for, fwand, fex, fall, fupd, fat, froom, fdies, flft, fdead, fobs, fauth, fres, fbor, fobor, flent, fshr-bor}
 use prog.Wp.{Heap, Env, release}
 use ghost.Atoms.{Atoms}
-use types.Kit.{Given, Item, ‵, raw, _⊛_, some, given, later, mean, ⋆, nth, pop, ++⊢, ⊢++, Goal, frees, aim, Step, step}
+use types.Kit.{Given, Item, ‵, raw, _⊛_, some, given, later, mean, ⋆, nth, push, pop, ++⊢, ⊢++, Goal, frees, aim, Step, step, by}
 
 -- the first n of a list, and the others
 abbrev front : {X : Type 2} → ℕ → List X → List X
@@ -81,6 +82,13 @@ module _ {M : Type 1} (𝓤 : URA M) (H : Heap 𝓤) (A : Atoms 𝓤) where
   slides : (P Q S : SProp 𝓤) → ent 𝓤 (sep 𝓤 P (sep 𝓤 Q S)) (sep 𝓤 (sep 𝓤 Q P) S)
   slides P Q S = via 𝓤 _ (assoc′ 𝓤 P Q S) (monoL 𝓤 S (comm∗ 𝓤 P Q))
 
+  sinks⊢ : (n : ℕ) (i : Item 𝓤) (Γ : List (Item 𝓤)) → ent 𝓤 (⋆ 𝓤 H A (i ∷ Γ)) (⋆ 𝓤 H A (front n Γ ++ (i ∷ back n Γ)))
+  sinks⊢ zero i Γ = id⊢ 𝓤 (⋆ 𝓤 H A (i ∷ Γ))
+  sinks⊢ (suc n) i [] = id⊢ 𝓤 (⋆ 𝓤 H A (i ∷ []))
+  sinks⊢ (suc n) i (j ∷ Γ) =
+      via 𝓤 _ (monoR 𝓤 (mean 𝓤 H A i) (pop 𝓤 H A j Γ)) (via 𝓤 _ (slides (mean 𝓤 H A i) (mean 𝓤 H A j) (⋆ 𝓤 H A Γ)) (via 𝓤 _ (assoc∗ 𝓤 (mean 𝓤 H A j) (mean 𝓤 H A i) (⋆ 𝓤 H A Γ))
+      (via 𝓤 _ (monoR 𝓤 (mean 𝓤 H A j) (via 𝓤 _ (push 𝓤 H A i Γ) (sinks⊢ n i Γ))) (push 𝓤 H A j (front n Γ ++ (i ∷ back n Γ))))))
+
   module _ (W : Given 𝓤 H A) where
     slot-room : (τ : Ty) (b : ℕ) (c : Option Val) → ent 𝓤 (mean 𝓤 H A (slot τ b c)) (H .room τ b 0)
     slot-room τ b none = id⊢ 𝓤 (H .room τ b 0)
@@ -111,3 +119,6 @@ module _ {M : Type 1} {𝓤 : URA M} {H : Heap 𝓤} {A : Atoms 𝓤} {K : Type 
   frees-at t n {E} {g} e = step (λ s. record {
     prf = subst (λ (Δ : List (Item 𝓤)). ent 𝓤 (⋆ 𝓤 H A Δ) (release 𝓤 H E (aim 𝓤 H g))) (sym e) (frees⊢ 𝓤 H A W n E (front n Γ) Γ (back (below 𝓤 H A n E) Γ) (aim 𝓤 H g) (s .prf));
   })
+
+  pub sinks : K → (n : ℕ) {i : Item 𝓤} {g : Goal 𝓤 H} → Step K W (front n Γ ++ (i ∷ back n Γ)) g (i ∷ Γ) g
+  sinks t n {i} = step (λ s. by t (via 𝓤 _ (sinks⊢ 𝓤 H A n i Γ) (s .prf)))

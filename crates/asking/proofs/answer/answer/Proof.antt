@@ -57,7 +57,8 @@ use Rattle.vetting.specs.Tested.{numbersPassing, Keepable}
 use Rattle.asking.specs.Asked.{Askable, Filled, Listed}
 use Rattle.record.proofs.Candidate as T
 use Rattle.walks.proofs.Ends.{Called, leaves-said, closes}
-use Rattle.walks.proofs.Lends.{all-freed, row, MutRow, for-none, blank, slices, lays, lends-row, ends-row, relends, relent, rereads, reread}
+use Rattle.walks.proofs.Frees.{frees-at, sinks}
+use Rattle.walks.proofs.Lends.{row, MutRow, for-none, blank, slices, lays, lends-row, ends-row, relends, relent, rereads, reread}
 use Rattle.walks.proofs.LentRow.{taken}
 use Rattle.asking.proofs.Outcome.{keepable, kept-room, replies}
 use Rattle.walks.proofs.WalkSteps.{asks-nothing}
@@ -254,8 +255,7 @@ module _ {M : Type 1} (𝓤 : URA M) (H : Heap 𝓤) (A : Atoms 𝓤) (W : Given
         leaves-said ! fm put-answers.ended (put-answers.clauses 𝓤 H A mem run) known-reply (to-reply seen (S′.lowered seen) c w₂ ks v) (λ r ts. RepliedTo seen c ks (ts .1 .1 .1 .0) r) (λ r ts. id⊢ 𝓤 _) (and-then ! (load ! (from ! (stop !)) (look ! 29 refl)) (and-then ! (load ! (from ! (stop !)) (look ! 24 refl)) (and-then ! (load ! (from ! (stop !)) (look ! 18 refl)) (and-then ! (load ! (from ! (stop !)) (look ! 6 refl)) (no-more !))))) (λ u r ts told′ is₄.
         -- [the reply; its token; the answers' last; the numbers; the list; its token; the table's; the table; _19; …]
         land ! (from ! (stop !)) (init ! 45 refl (LL.lawful P.the-type P′.the-laws 𝓤 H A W .typed r _ is₄ .0)) $ move ! (2 ∷ []) $ fsplit ! $ move ! (1 ∷ []) $ feqL ! (λ l′.
-        returns ! (look ! 45 refl) $ forget ! 8 refl $ forget ! 10 refl $ forget ! 12 refl $ forget ! 14 refl $ forget ! 16 refl $ forget ! 18 refl $ forget ! 20 refl $ forget ! 22 refl $ forget ! 24 refl $ forget ! 26 refl $ forget ! 3 refl $ forget ! 29 refl $ forget ! 31 refl $ forget ! 33 refl $ forget ! 35 refl $ forget ! 37 refl $ forget ! 39 refl $ forget ! 41 refl $ forget ! 43 refl $ forget ! 45 refl $
-        move ! (45 ∷ 46 ∷ 43 ∷ 44 ∷ 41 ∷ 42 ∷ 39 ∷ 40 ∷ 37 ∷ 38 ∷ 35 ∷ 36 ∷ 33 ∷ 34 ∷ 31 ∷ 32 ∷ 29 ∷ 30 ∷ 3 ∷ 28 ∷ 26 ∷ 27 ∷ 24 ∷ 25 ∷ 22 ∷ 23 ∷ 20 ∷ 21 ∷ 18 ∷ 19 ∷ 16 ∷ 17 ∷ 14 ∷ 15 ∷ 12 ∷ 13 ∷ 10 ∷ 11 ∷ 8 ∷ 9 ∷ []) $ all-freed ! $
+        returns ! (look ! 45 refl) $ move ! (3 ∷ []) $ sinks ! 27 $ frees-at ! 7 refl $
         keep ! (3 ∷ 5 ∷ 4 ∷ 2 ∷ 6 ∷ 0 ∷ 1 ∷ []) $ by ! (exits zs (ts .1 .1 .1 .0) r u l l′ (subst (Listed ws q k ys zs (now ar) (ts .1 .1 .1 .0)) (sym (told′ .0)) (replies (pre .table) q grid k filled (pre .room) c ks ks₀ (kept .0) (kept .1) (now ar) (ts .1 .1 .1 .0) (told′ .1))))))))))))))))))))))))))))))))))))
 
 pub answer-spec : {M : Type 1} → stated.statement M

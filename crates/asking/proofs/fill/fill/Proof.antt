@@ -63,7 +63,8 @@ use Rattle.asking.specs.Records.{candidatesIn}
 use Rattle.asking.specs.Asked.{Askable, Filled}
 use Rattle.record.proofs.Candidate as T
 use Rattle.walks.proofs.Ends.{Called, leaves-said, closes}
-use Rattle.walks.proofs.Lends.{all-freed, row, MutRow, ShrRow, for-none, blank, slices, lays, lends-row, ends-row, shares-row, frees-row}
+use Rattle.walks.proofs.Frees.{frees-at, sinks}
+use Rattle.walks.proofs.Lends.{row, MutRow, ShrRow, for-none, blank, slices, lays, lends-row, ends-row, shares-row, frees-row}
 use Rattle.asking.proofs.Outcome.{points-most, hand-room, filled}
 use Rattle.walks.proofs.WalkSteps.{asks-nothing, three-facts}
 use Rattle.asking.proofs.fill.words as words
@@ -275,8 +276,7 @@ module _ {M : Type 1} (𝓤 : URA M) (H : Heap 𝓤) (A : Atoms 𝓤) (W : Given
         move ! (5 ∷ 8 ∷ []) $ frees-row ! tt i32 500 l₈ o₃ ys₁ $
         move ! (6 ∷ 7 ∷ []) $ frees-row ! tt u64 500 l₉ o₄ ss₁ $
         assigns ! (of-opd ! (load ! (from ! (stop !)) (look ! 54 refl))) (from ! (stop !)) (init ! 70 refl wt) $
-        returns ! (look ! 70 refl) $ forget ! 10 refl $ forget ! 12 refl $ forget ! 14 refl $ forget ! 16 refl $ forget ! 18 refl $ forget ! 20 refl $ forget ! 22 refl $ forget ! 24 refl $ forget ! 26 refl $ forget ! 28 refl $ forget ! 30 refl $ forget ! 32 refl $ forget ! 34 refl $ forget ! 36 refl $ forget ! 38 refl $ forget ! 40 refl $ forget ! 42 refl $ forget ! 44 refl $ forget ! 46 refl $ forget ! 48 refl $ forget ! 50 refl $ forget ! 52 refl $ forget ! 54 refl $ forget ! 60 refl $ forget ! 62 refl $ forget ! 64 refl $ forget ! 66 refl $ forget ! 68 refl $ forget ! 70 refl $
-        move ! (70 ∷ 71 ∷ 68 ∷ 69 ∷ 66 ∷ 67 ∷ 64 ∷ 65 ∷ 62 ∷ 63 ∷ 60 ∷ 61 ∷ 3 ∷ 59 ∷ 2 ∷ 58 ∷ 1 ∷ 57 ∷ 0 ∷ 56 ∷ 54 ∷ 55 ∷ 52 ∷ 53 ∷ 50 ∷ 51 ∷ 48 ∷ 49 ∷ 46 ∷ 47 ∷ 44 ∷ 45 ∷ 42 ∷ 43 ∷ 40 ∷ 41 ∷ 38 ∷ 39 ∷ 36 ∷ 37 ∷ 34 ∷ 35 ∷ 32 ∷ 33 ∷ 30 ∷ 31 ∷ 28 ∷ 29 ∷ 26 ∷ 27 ∷ 24 ∷ 25 ∷ 22 ∷ 23 ∷ 20 ∷ 21 ∷ 18 ∷ 19 ∷ 16 ∷ 17 ∷ 14 ∷ 15 ∷ 12 ∷ 13 ∷ 10 ∷ 11 ∷ []) $ all-freed ! $
+        returns ! (look ! 70 refl) $ sinks ! 55 $ sinks ! 56 $ sinks ! 57 $ sinks ! 58 $ frees-at ! 6 refl $
         keep ! (4 ∷ 2 ∷ 5 ∷ 0 ∷ 3 ∷ []) $ by ! (exits seen (vs .0) long (filled (pre .table) q grid k noted ys (vs .0) handed))))))))))))))))))))))))))))))))))))))))))))))))))))))
 
 pub fill-spec : {M : Type 1} → stated.statement M

@@ -49,7 +49,8 @@ use Rattle.asking.specs.Records.{candidateIn, candidatesIn}
 use Rattle.record.proofs.Candidate as T
 use Rattle.record.proofs.Candidate.Laws as T′
 use Rattle.walks.proofs.Ends.{Called, answers, leaves-said, closes}
-use Rattle.walks.proofs.Lends.{all-freed, relends, relent}
+use Rattle.walks.proofs.Frees.{frees-at}
+use Rattle.walks.proofs.Lends.{relends, relent}
 use Rattle.walks.proofs.Turns.{NearerTo, NearerTo-wf, Turned}
 use Rattle.asking.proofs.Laid.{hand-start, hand-step}
 use Rattle.walks.proofs.WalkSteps.{twice-both}
@@ -267,8 +268,7 @@ module _ {M : Type 1} (𝓤 : URA M) (H : Heap 𝓤) (A : Atoms 𝓤) (W : Given
         keep ! (5 ∷ 6 ∷ 7 ∷ 8 ∷ 9 ∷ 10 ∷ 11 ∷ 12 ∷ 13 ∷ 14 ∷ 15 ∷ 16 ∷ 17 ∷ 18 ∷ 19 ∷ 20 ∷ 21 ∷ 22 ∷ 23 ∷ 24 ∷ 25 ∷ 26 ∷ 27 ∷ 28 ∷ 29 ∷ 30 ∷ 0 ∷ 1 ∷ 3 ∷ 4 ∷ []) $ again ! Nearer At i (next less v (ws .0) e f) (add-one-dec m (i .0) (ltb→lt (i .0) m less)))))))
         (λ over. jumps ! $ exec ! C Λ En mir′.t-3 (atRet En Post) $
         assigns ! (of-opd ! (unit-lit !)) (from ! (stop !)) (init ! 24 refl (tt, tt)) $
-        returns ! (look ! 24 refl) $ forget ! 6 refl $ forget ! 10 refl $ forget ! 12 refl $ forget ! 14 refl $ forget ! 16 refl $ forget ! 18 refl $ forget ! 20 refl $ forget ! 22 refl $ forget ! 24 refl $
-        move ! (24 ∷ 25 ∷ 22 ∷ 23 ∷ 20 ∷ 21 ∷ 18 ∷ 19 ∷ 16 ∷ 17 ∷ 14 ∷ 15 ∷ 12 ∷ 13 ∷ 10 ∷ 11 ∷ 8 ∷ 9 ∷ 6 ∷ 7 ∷ 4 ∷ 5 ∷ 2 ∷ 3 ∷ 0 ∷ 1 ∷ []) $ all-freed ! $
+        returns ! (look ! 24 refl) $ frees-at ! 0 refl $
         by ! (exits (i .2) (i .3) (at-end over)))
       where
         fits : (j : Upto) → j .0 < 2 ^ 64

@@ -51,7 +51,8 @@ use Rattle.vetting.specs.Tested.{entryOf, passesAs, nearerAmong, numbers
 use Rattle.record.proofs.Candidate as T
 use Rattle.record.proofs.Candidate.Laws as T′
 use Rattle.walks.proofs.Ends.{Called, leaves-said, closes}
-use Rattle.walks.proofs.Lends.{all-freed, relends, relent}
+use Rattle.walks.proofs.Frees.{frees-at}
+use Rattle.walks.proofs.Lends.{relends, relent}
 use Rattle.walks.proofs.Turns.{NearerTo, NearerTo-wf, Turned}
 use Rattle.vetting.proofs.Passed.{Kept, kept-none, kept-next}
 use Rattle.record.proofs.record_at as record-at
@@ -288,8 +289,7 @@ module _ {M : Type 1} (𝓤 : URA M) (H : Heap 𝓤) (A : Atoms 𝓤) (W : Given
         keep ! (7 ∷ 8 ∷ 9 ∷ 10 ∷ 11 ∷ 12 ∷ 13 ∷ 14 ∷ 15 ∷ 16 ∷ 17 ∷ 18 ∷ 19 ∷ 20 ∷ 21 ∷ 22 ∷ 23 ∷ 24 ∷ 25 ∷ 26 ∷ 27 ∷ 28 ∷ 29 ∷ 30 ∷ 31 ∷ 32 ∷ 0 ∷ 1 ∷ 3 ∷ 5 ∷ 4 ∷ 6 ∷ []) $ again ! Nearer At i (next less c r (ls .1 .1 .1 .1 .0) e f) (add-one-dec m (i .0) (ltb→lt (i .0) m less))))))))
         (λ over. jumps ! $ exec ! C Λ En mir′.t-4 (atRet En Post) $
         assigns ! (of-opd ! (load ! (from ! (stop !)) (look ! 12 refl))) (from ! (stop !)) (init ! 24 refl (tt, record { fits = few i })) $
-        returns ! (look ! 24 refl) $ forget ! 4 refl $ forget ! 10 refl $ forget ! 12 refl $ forget ! 14 refl $ forget ! 16 refl $ forget ! 18 refl $ forget ! 20 refl $ forget ! 22 refl $ forget ! 24 refl $
-        move ! (24 ∷ 25 ∷ 22 ∷ 23 ∷ 20 ∷ 21 ∷ 18 ∷ 19 ∷ 16 ∷ 17 ∷ 14 ∷ 15 ∷ 12 ∷ 13 ∷ 10 ∷ 11 ∷ 8 ∷ 9 ∷ 6 ∷ 7 ∷ 4 ∷ 5 ∷ 2 ∷ 3 ∷ 0 ∷ 1 ∷ []) $ all-freed ! $
+        returns ! (look ! 24 refl) $ frees-at ! 0 refl $
         by ! (exits (i .2) (i .3) (few i) (i .4 .long) (at-end over)))
       where
         within : Holds (ltb (i .0) m) → i .0 < m

@@ -47,7 +47,7 @@ use Rattle.vetting.specs.Tested.{entryOf, nearerAs, nearerAmong, Readabl
 use Rattle.record.proofs.Candidate as T
 use Rattle.record.proofs.Candidate.Laws as T′
 use Rattle.walks.proofs.Ends.{Called, leaves-said, closes}
-use Rattle.walks.proofs.Lends.{all-freed}
+use Rattle.walks.proofs.Frees.{frees-at}
 use Rattle.walks.proofs.Turns.{NearerTo, NearerTo-wf, Turned}
 use Rattle.vetting.proofs.Nearby.{Counted, counted-none, counted-next}
 use Rattle.record.proofs.record_at as record-at
@@ -202,8 +202,7 @@ module _ {M : Type 1} (𝓤 : URA M) (H : Heap 𝓤) (A : Atoms 𝓤) (W : Given
         keep ! (3 ∷ 4 ∷ 5 ∷ 6 ∷ 7 ∷ 8 ∷ 9 ∷ 10 ∷ 11 ∷ 12 ∷ 13 ∷ 14 ∷ 15 ∷ 16 ∷ 17 ∷ 18 ∷ 19 ∷ 20 ∷ 1 ∷ 2 ∷ []) $ again ! Nearer At i (next less d r e g) (add-one-dec m (i .0) (within less)))))
         (λ over. jumps ! $ exec ! C Λ En mir′.t-4 (atRet En Post) $
         assigns ! (of-opd ! (load ! (from ! (stop !)) (look ! 8 refl))) (from ! (stop !)) (init ! 16 refl (tt, record { fits = few i })) $
-        returns ! (look ! 16 refl) $ forget ! 2 refl $ forget ! 6 refl $ forget ! 8 refl $ forget ! 10 refl $ forget ! 12 refl $ forget ! 14 refl $ forget ! 16 refl $
-        move ! (16 ∷ 17 ∷ 14 ∷ 15 ∷ 12 ∷ 13 ∷ 10 ∷ 11 ∷ 8 ∷ 9 ∷ 6 ∷ 7 ∷ 4 ∷ 5 ∷ 2 ∷ 3 ∷ 0 ∷ 1 ∷ []) $ all-freed ! $
+        returns ! (look ! 16 refl) $ frees-at ! 0 refl $
         by ! (exits (i .2) (few i) (at-end over)))
       where
         within : Holds (ltb (i .0) m) → i .0 < m
