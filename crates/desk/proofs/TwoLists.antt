@@ -21,7 +21,6 @@ use denote.Slice.{slice-vals, mut-slice-tells, shr-slice-tells}
 use denote.Signature.{plain, typesAt}
 use denote.Steps.{owned}
 use denote.Enum.Laws as EL
-use denote.Triple.Spec.{tripleOf}
 use denote.Triple.Statement.{Contract}
 use denote.Triple.Walked.{Stays, AllGo, gave-slice, stay-none-slice, stay-none, goes-gave-slice, goes-none-slice, goes-none}
 use denote.Exit.{yes}
@@ -29,6 +28,7 @@ use Rattle.table.specs.declared.given.Given.{Given}
 use Rattle.table.proofs.given.Given as G
 use Rattle.table.proofs.given.Given.Laws as G′
 use Rattle.record.proofs.Candidate as C′
+use Rattle.walks.proofs.Ends.{Called}
 use Rattle.walks.proofs.Handed.{asked}
 use Rattle.refusals.proofs.answered.is_refused as is-refused
 use Rattle.refusals.proofs.answered.refused as refused
@@ -59,10 +59,10 @@ tells κs = (shr-slice-tells (named 0) (κs .0) i32, (sint-tells w32, (sint-tell
 -- the contracts of `is_refused` and `refused`, what they bind outside, and what both ask
 module _ {M : Type 1} (𝓤 : URA M) (H : Heap 𝓤) (A : Atoms 𝓤) (mem : Memory → SProp 𝓤) (run : Routine → Fun 𝓤) where
   abbrev pub IsRefused : Contract 𝓤
-  IsRefused = tripleOf 𝓤 H A is-refused.signature (is-refused.spec 𝓤 H A mem run)
+  IsRefused = Called 𝓤 H A is-refused.ended (is-refused.clauses 𝓤 H A mem run)
 
   abbrev pub Refused : Contract 𝓤
-  Refused = tripleOf 𝓤 H A refused.signature (refused.spec 𝓤 H A mem run)
+  Refused = Called 𝓤 H A refused.ended (refused.clauses 𝓤 H A mem run)
 
 abbrev pub of-given : Given → Val → ((Unit {0} × Unit {0} × Unit {0} × (Given × Unit {0}) × (List Val × Unit {0})) × Unit {0})
 of-given g w = ((tt, tt, tt, (g, tt), (w ∷ [], tt)), tt)

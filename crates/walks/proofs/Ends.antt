@@ -1,5 +1,6 @@
 -- Rules for walks by hand: a call whose clause is one fact, and the end of a function's proof. They say nothing of the crate.
 --     Called           the contract of a callee, by what is generated for it
+--     tokens           the tokens of n lifetimes, an entry for each
 --     answers          a call that is lent nothing `&mut`: its result, the fact, and the lifetimes' tokens as one
 --     leaves-said      a call that may be: its result, the fact, each token, and for each `&mut` what is said of its last value
 --     closes           a walk of a function's MIR proves the function
@@ -31,7 +32,7 @@ use denote.Triple.Call.{calls-at}
 use denote.Triple.End.{Kepts, Fins, lastsOf}
 use denote.Triple.Clauses.{Ended, Clauses, Lasts, lasts, atExit, ensured, closing}
 use denote.Triple.Bound.{Bound}
-use denote.Triple.Entry.{Res, alive, onEntry}
+use denote.Triple.Entry.{alive, onEntry}
 use denote.Triple.Spec.{tripleOf}
 use denote.Triple.Table.{entered}
 use denote.Triple.Walked.{Stays, AllGo, walkOf, walked-at, walk-meets}
@@ -52,7 +53,7 @@ module _ {M : Type 1} (𝓤 : URA M) where
   lefts κs (s ∷ ss) ks a ws = left-of (s .row κs .exit (ks .0)) (a .0) (ws .0) (lefts κs ss (ks .1) (a .1) (ws .1))
 
   module _ (H : Heap 𝓤) (A : Atoms 𝓤) where
-    tokens-are : (n : ℕ) (κs : Lfts n) (qs : Shares n) → ent 𝓤 (toks 𝓤 A n κs qs) (⋆ 𝓤 H A (tokens n κs qs))
+    pub tokens-are : (n : ℕ) (κs : Lfts n) (qs : Shares n) → ent 𝓤 (toks 𝓤 A n κs qs) (⋆ 𝓤 H A (tokens n κs qs))
     tokens-are zero κs qs = id⊢ 𝓤 (emp 𝓤)
     tokens-are (suc n) κs qs = via 𝓤 _ (monoR 𝓤 (A .lft (κs .0) (qs .0)) (tokens-are n (κs .1) (qs .1))) (push 𝓤 H A (‵ (flft (κs .0) (qs .0))) (tokens n (κs .1) (qs .1)))
 

@@ -17,7 +17,7 @@ use ghost.Atoms.{Atoms, sem}
 use contract.Monad.{Fun}
 use contract.Lifetimes.{Lfts, Shares}
 use contract.Running.{givenOf}
-use types.Kit.{Given, ‵, raw, _⊛_, ⋆, _$_, _∵_, !, qed, by, move, keep, drop, use1, group, split, join, fsplit, feqL, suffices, frame, done}
+use types.Kit.{Given, ‵, raw, _⊛_, ⋆, _$_, _∵_, !, qed, by, move, keep, use1, group, split, join, suffices, frame, done}
 use types.Run.{look, init, stop, hop, fld, from, load, addr, and-then, no-more, assigns, land, returns, enter, alloc1, alloc0, params1, pass1, pass0}
 use types.Part.{agg, whole, sub, look-in}
 use sound.WpLaws.{FmC}
@@ -31,7 +31,6 @@ use denote.Slice.{sliceVal, slice-vals, mut-slice-tells, shr-slice-tells, MutSli
 use denote.Signature.{plain}
 use denote.Struct.Laws as LL
 use denote.Triple.Entry.{onEntry}
-use denote.Triple.Spec.{tripleOf}
 use denote.Triple.Statement.{Contract, Triple}
 use denote.Triple.Table.{cited}
 use denote.Triple.Walked.{says, Stays, gave-slice, stay-none-slice, stay-none, walkOf, goes-gave-slice, goes-none-slice, goes-none, ends-at}
@@ -42,9 +41,9 @@ use Rattle.record.specs.declared.Candidate.{Candidate}
 use Rattle.record.proofs.Candidate as C′
 use Rattle.refusals.specs.declared.answered.Answered.{Answered}
 use Rattle.refusals.specs.Refusals.{site}
-use Rattle.walks.proofs.Ends.{closes}
+use Rattle.walks.proofs.Ends.{Called, leaves-said, closes}
 use Rattle.walks.proofs.Frees.{frees-at}
-use Rattle.walks.proofs.Handed.{apart, stack, asked, beside, arg, both, hands, last-two}
+use Rattle.walks.proofs.Handed.{apart, stack, asked, beside, arg, both, last-one, last-two}
 use Rattle.desk.specs.Lent.{Answers}
 use Rattle.refusals.proofs.answered.Answered as T
 use Rattle.refusals.proofs.answered.Answered.Laws as T′
@@ -78,10 +77,10 @@ stayed = (
 -- the contracts that the proof cites
 module _ {M : Type 1} (𝓤 : URA M) (H : Heap 𝓤) (A : Atoms 𝓤) (mem : Memory → SProp 𝓤) (run : Routine → Fun 𝓤) where
   abbrev Query : Contract 𝓤
-  Query = tripleOf 𝓤 H A query.signature (query.spec 𝓤 H A mem run)
+  Query = Called 𝓤 H A query.ended (query.clauses 𝓤 H A mem run)
 
   abbrev Told′ : Contract 𝓤
-  Told′ = tripleOf 𝓤 H A told.signature (told.spec 𝓤 H A mem run)
+  Told′ = Called 𝓤 H A told.ended (told.clauses 𝓤 H A mem run)
 
 module _ {M : Type 1} (𝓤 : URA M) (H : Heap 𝓤) (A : Atoms 𝓤) (W : Given 𝓤 H A) (mem : Memory → SProp 𝓤) (run : Routine → Fun 𝓤) (κs : Lfts 4) (qs : Shares 4)
     (tr : RefT (List ℤ)) (zx zy zk : ℤ) (x : RefT (List Candidate)) (ar cr : RefT (List ℕ)) (rt : Room i32 (length (now tr))) (gx : Is i32 zx (vint w32 (ofZ w32 zx) ∷ [])) (gy : Is i32 zy (vint w32 (ofZ w32 zy) ∷ [])) (gk : Is i32 zk (vint w32 (ofZ w32 zk) ∷ []))
@@ -180,16 +179,16 @@ module _ {M : Type 1} (𝓤 : URA M) (H : Heap 𝓤) (A : Atoms 𝓤) (W : Given
         assigns ! (addr ! (from ! (fld ! refl (hop ! (look-in ! 16 (sub ! 0 refl (whole !))) (stop !))))) (from ! (stop !)) (init ! 6 refl (tt, tt)) $
         assigns ! (agg ! (arg ! 6 refl (and-then ! (load ! (from ! (fld ! refl (stop !))) (look-in ! 16 (sub ! 1 refl (whole !)))) (no-more !)))) (from ! (stop !)) (init ! 4 refl (tt, (tt, (record { fits = ra .0 }, tt)))) $
         move ! (34 ∷ []) $ use1 W (‵ Tabled ⊛ ‵ Tabled) tabled-twice $ split ! $ move ! (32 ∷ 33 ∷ 34 ∷ 0 ∷ 36 ∷ 37 ∷ []) $ group ! 6 $ use1 W (raw (Query 𝓤 H A mem run .pre to-query)) goes-query $
-        hands ! fm query.ended (query.clauses 𝓤 H A mem run) known-query to-query (λ r vs. Answers ws q zk ys (vs .1 .1 .1 .1 .0) (now ar) (vs .1 .1 .1 .1 .1 .0) r) (λ r vs. id⊢ 𝓤 _) (arg ! 28 refl (arg ! 26 refl (arg ! 24 refl (arg ! 22 refl (arg ! 10 refl (arg ! 6 refl (no-more !))))))) (λ u r vs answered is. last-two ! (λ l₁′ l₂′.
+        leaves-said ! fm query.ended (query.clauses 𝓤 H A mem run) known-query to-query (λ r vs. Answers ws q zk ys (vs .1 .1 .1 .1 .0) (now ar) (vs .1 .1 .1 .1 .1 .0) r) (λ r vs. id⊢ 𝓤 _) (arg ! 28 refl (arg ! 26 refl (arg ! 24 refl (arg ! 22 refl (arg ! 10 refl (arg ! 6 refl (no-more !))))))) (λ u r vs answered is. move ! (4 ∷ 5 ∷ []) $ last-two ! (λ l₁′ l₂′.
         land ! (from ! (stop !)) (init ! 19 refl (LL.lawful T.the-type T′.the-laws 𝓤 H A W .typed r _ is .0)) $
         -- so are the counts
         assigns ! (addr ! (from ! (fld ! refl (hop ! (look-in ! 21 (sub ! 0 refl (whole !))) (stop !))))) (from ! (stop !)) (init ! 9 refl (tt, tt)) $
         assigns ! (agg ! (arg ! 9 refl (and-then ! (load ! (from ! (fld ! refl (stop !))) (look-in ! 21 (sub ! 1 refl (whole !)))) (no-more !)))) (from ! (stop !)) (init ! 7 refl (tt, (tt, (record { fits = rc .0 }, tt)))) $
         move ! (37 ∷ 2 ∷ 38 ∷ []) $ group ! 3 $ use1 W (raw (Told′ 𝓤 H A mem run .pre (to-told r u))) (goes-told r u) $
-        hands ! fm told.ended (told.clauses 𝓤 H A mem run) known-told (to-told r u) (λ n ts. (n ≡ numberGiven (r .given)) × (ts .1 .0 ≡ countsLaid (record { n = r .n; m = r .m; o = r .o }) (now cr))) (λ n ts. both 𝓤) (arg ! 19 refl (arg ! 7 refl (no-more !))) (λ v n ts said is₁.
-        fsplit ! $ drop ! $ fsplit ! $ fsplit ! $ move ! (1 ∷ []) $ feqL ! (λ l₃′.
-        land ! (from ! (stop !)) (init ! 38 refl (uint-lawful 𝓤 H A W w8 .typed n _ is₁ .0)) $
-        returns ! (look ! 38 refl) $ frees-at ! 10 refl $ keep ! (6 ∷ 7 ∷ 8 ∷ 3 ∷ 9 ∷ 4 ∷ 5 ∷ 0 ∷ 2 ∷ []) $
+        leaves-said ! fm told.ended (told.clauses 𝓤 H A mem run) known-told (to-told r u) (λ n ts. (n ≡ numberGiven (r .given)) × (ts .1 .0 ≡ countsLaid (record { n = r .n; m = r .m; o = r .o }) (now cr))) (λ n ts. both 𝓤) (arg ! 19 refl (arg ! 7 refl (no-more !))) (λ v n ts said is₁.
+        move ! (2 ∷ []) $ last-one ! (λ l₃′.
+        land ! (from ! (stop !)) (init ! 37 refl (uint-lawful 𝓤 H A W w8 .typed n _ is₁ .0)) $
+        returns ! (look ! 37 refl) $ frees-at ! 9 refl $ keep ! (5 ∷ 6 ∷ 7 ∷ 2 ∷ 8 ∷ 3 ∷ 4 ∷ 0 ∷ 1 ∷ []) $
         by ! (exits (vs .1 .1 .1 .1 .0) (vs .1 .1 .1 .1 .1 .0) (ts .1 .0) n v l₁′ l₂′ l₃′ (telling ws q zk ys (vs .1 .1 .1 .1 .0) (now ar) (vs .1 .1 .1 .1 .1 .0) (now cr) (ts .1 .0) r n answered (said .0) (said .1))))))))))))))))))))))
 
 pub ullagreth-query-spec : {M : Type 1} → stated.statement M

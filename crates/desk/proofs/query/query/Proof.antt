@@ -33,7 +33,6 @@ use denote.Steps.{only}
 use denote.Struct.Laws as LL
 use denote.Enum.Laws as EL
 use denote.Triple.Entry.{onEntry}
-use denote.Triple.Spec.{tripleOf}
 use denote.Triple.Statement.{Contract, Triple}
 use denote.Triple.Table.{cited}
 use denote.Triple.Walked.{says, walkOf, ends-at}
@@ -42,9 +41,9 @@ use Rattle.grid.specs.Site.{Site}
 use Rattle.table.proofs.given.Given as G
 use Rattle.table.proofs.given.Given.Laws as G′
 use Rattle.record.specs.declared.Candidate.{Candidate}
-use Rattle.walks.proofs.Ends.{answers, closes}
+use Rattle.walks.proofs.Ends.{Called, answers, leaves-said, closes}
 use Rattle.walks.proofs.Frees.{frees-at}
-use Rattle.walks.proofs.Handed.{apart, stack, asked, beside, arg, hands, last-two}
+use Rattle.walks.proofs.Handed.{apart, stack, asked, beside, arg, last-two}
 use Rattle.walks.proofs.WalkSteps.{env, lets-go}
 use Rattle.refusals.specs.declared.answered.Answered.{Answered}
 use Rattle.refusals.specs.Refusals.{site}
@@ -84,10 +83,10 @@ use Rattle.desk.proofs.query.query.Code.Mir as mir′
 -- the contracts that the proof cites, beside those of `is_refused` and `refused`
 module _ {M : Type 1} (𝓤 : URA M) (H : Heap 𝓤) (A : Atoms 𝓤) (mem : Memory → SProp 𝓤) (run : Routine → Fun 𝓤) where
   abbrev Check : Contract 𝓤
-  Check = tripleOf 𝓤 H A check.signature (check.spec 𝓤 H A mem run)
+  Check = Called 𝓤 H A check.ended (check.clauses 𝓤 H A mem run)
 
   abbrev Passing : Contract 𝓤
-  Passing = tripleOf 𝓤 H A query-passing.signature (query-passing.spec 𝓤 H A mem run)
+  Passing = Called 𝓤 H A query-passing.ended (query-passing.clauses 𝓤 H A mem run)
 
 module _ {M : Type 1} (𝓤 : URA M) (H : Heap 𝓤) (A : Atoms 𝓤) (W : Rules 𝓤 H A) (mem : Memory → SProp 𝓤) (run : Routine → Fun 𝓤) (κs : Lfts 3) (qs : Shares 3)
     (tr : RefT (List ℤ)) (zx zy zk : ℤ) (x : RefT (List Candidate)) (ar : RefT (List ℕ)) (rt : Room i32 (length (now tr))) (gx : Is i32 zx (vint w32 (ofZ w32 zx) ∷ [])) (gy : Is i32 zy (vint w32 (ofZ w32 zy) ∷ [])) (gk : Is i32 zk (vint w32 (ofZ w32 zk) ∷ []))
@@ -169,7 +168,7 @@ module _ {M : Type 1} (𝓤 : URA M) (H : Heap 𝓤) (A : Atoms 𝓤) (W : Rules
         pass1 ! (init ! 22 refl (tt, (tt, (record { fits = rt .0 }, tt)))) $ pass1 ! (init ! 20 refl (sint-lawful 𝓤 H A W w32 .typed zx _ gx .0)) $ pass1 ! (init ! 18 refl (sint-lawful 𝓤 H A W w32 .typed zy _ gy .0)) $ pass1 ! (init ! 16 refl (sint-lawful 𝓤 H A W w32 .typed zk _ gk .0)) $
         pass1 ! (init ! 14 refl (tt, (tt, (record { fits = room .0 }, tt)))) $ pass1 ! (init ! 12 refl (tt, (tt, (record { fits = ra .0 }, tt)))) $ pass0 ! $
         move ! (29 ∷ []) $ use1 W (‵ Tabled ⊛ ‵ Tabled) tabled-twice $ split ! $ move ! (28 ∷ 0 ∷ []) $ use2 W (raw (Check 𝓤 H A mem run .pre at-check)) goes-words $
-        hands ! fm check.ended (check.clauses 𝓤 H A mem run) known-check at-check (λ g us. g ≡ checkGives ws) (λ g us. id⊢ 𝓤 _) (arg ! 24 refl (no-more !)) (λ w g us e is. drop ! $
+        leaves-said ! fm check.ended (check.clauses 𝓤 H A mem run) known-check at-check (λ g us. g ≡ checkGives ws) (λ g us. id⊢ 𝓤 _) (arg ! 24 refl (no-more !)) (λ w g us e is.
         land ! (from ! (stop !)) (init ! 13 refl (EL.lawful G.the-type G′.the-laws 𝓤 H A W tt .typed g _ is .0)) $
         -- whether it is a refusal
         use0 W (raw (IsRefused 𝓤 H A mem run .pre (of-given g w))) (goes-given 𝓤 H A W g w is) $
@@ -190,8 +189,8 @@ module _ {M : Type 1} (𝓤 : URA M) (H : Heap 𝓤) (A : Atoms 𝓤) (W : Rules
         assigns ! (agg ! (arg ! 4 refl (and-then ! (load ! (from ! (fld ! refl (stop !))) (look-in ! 14 (sub ! 1 refl (whole !)))) (no-more !)))) (from ! (stop !)) (init ! 2 refl (tt, (tt, (record { fits = ra .0 }, tt)))) $
         -- both lists are passed on for good
         move ! (1 ∷ []) $ use1 W (‵ Tabled ⊛ ‵ Tabled) tabled-twice $ split ! $ move ! (2 ∷ 29 ∷ 30 ∷ 0 ∷ 31 ∷ 32 ∷ []) $ group ! 6 $ use1 W (raw (Passing 𝓤 H A mem run .pre to-passing)) (goes-passing (passes ws e (not-refused-done g (sym f ∙ is-false z no)))) $
-        hands ! fm query-passing.ended (query-passing.clauses 𝓤 H A mem run) known-passing to-passing (λ r vs. Answers ws q zk ys (vs .1 .1 .1 .1 .0) (now ar) (vs .1 .1 .1 .1 .1 .0) r) (λ r vs. id⊢ 𝓤 _)
-        (arg ! 24 refl (arg ! 22 refl (arg ! 20 refl (arg ! 18 refl (arg ! 6 refl (arg ! 2 refl (no-more !))))))) (λ u r vs answered is₂. last-two ! (λ l₁ l₂.
+        leaves-said ! fm query-passing.ended (query-passing.clauses 𝓤 H A mem run) known-passing to-passing (λ r vs. Answers ws q zk ys (vs .1 .1 .1 .1 .0) (now ar) (vs .1 .1 .1 .1 .1 .0) r) (λ r vs. id⊢ 𝓤 _)
+        (arg ! 24 refl (arg ! 22 refl (arg ! 20 refl (arg ! 18 refl (arg ! 6 refl (arg ! 2 refl (no-more !))))))) (λ u r vs answered is₂. move ! (4 ∷ 5 ∷ []) $ last-two ! (λ l₁ l₂.
         land ! (from ! (stop !)) (init ! 31 refl (LL.lawful T.the-type T′.the-laws 𝓤 H A W .typed r _ is₂ .0)) $
         returns ! (look ! 31 refl) $ frees-at ! 7 refl $ keep ! (3 ∷ 4 ∷ 5 ∷ 6 ∷ 0 ∷ 1 ∷ 2 ∷ []) $ by ! (exits (vs .1 .1 .1 .1 .0) (vs .1 .1 .1 .1 .1 .0) r u l₁ l₂ answered)))))))))))))))))))
 

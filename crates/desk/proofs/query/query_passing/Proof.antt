@@ -33,7 +33,6 @@ use denote.Steps.{only, owned}
 use denote.Struct.Laws as LL
 use denote.Enum.Laws as EL
 use denote.Triple.Entry.{onEntry}
-use denote.Triple.Spec.{tripleOf}
 use denote.Triple.Statement.{Contract, Triple}
 use denote.Triple.Table.{cited}
 use denote.Triple.Walked.{says, needs, walkOf, ends-at}
@@ -43,9 +42,9 @@ use Rattle.table.specs.declared.given.Given.{Given}
 use Rattle.table.proofs.given.Given as G
 use Rattle.table.proofs.given.Given.Laws as G′
 use Rattle.record.specs.declared.Candidate.{Candidate}
-use Rattle.walks.proofs.Ends.{answers, closes}
+use Rattle.walks.proofs.Ends.{Called, answers, leaves-said, closes}
 use Rattle.walks.proofs.Frees.{frees-at}
-use Rattle.walks.proofs.Handed.{apart, stack, asked, beside, arg, hands, last-two}
+use Rattle.walks.proofs.Handed.{apart, stack, asked, beside, arg, last-two}
 use Rattle.walks.proofs.WalkSteps.{env, lets-go}
 use Rattle.refusals.specs.declared.answered.Answered.{Answered}
 use Rattle.refusals.specs.Refusals.{site, queryGives}
@@ -104,19 +103,19 @@ use Rattle.desk.proofs.query.query_passing.Code.Mir as mir′
 -- the contracts that the proof cites, beside those of `is_refused` and `refused`
 module _ {M : Type 1} (𝓤 : URA M) (H : Heap 𝓤) (A : Atoms 𝓤) (mem : Memory → SProp 𝓤) (run : Routine → Fun 𝓤) where
   abbrev AreWords : Contract 𝓤
-  AreWords = tripleOf 𝓤 H A are-words.signature (are-words.spec 𝓤 H A mem run)
+  AreWords = Called 𝓤 H A are-words.ended (are-words.clauses 𝓤 H A mem run)
 
   abbrev QueryGiven : Contract 𝓤
-  QueryGiven = tripleOf 𝓤 H A query-given.signature (query-given.spec 𝓤 H A mem run)
+  QueryGiven = Called 𝓤 H A query-given.ended (query-given.clauses 𝓤 H A mem run)
 
   abbrev Natural : Contract 𝓤
-  Natural = tripleOf 𝓤 H A natural.signature (natural.spec 𝓤 H A mem run)
+  Natural = Called 𝓤 H A natural.ended (natural.clauses 𝓤 H A mem run)
 
   abbrev Answer : Contract 𝓤
-  Answer = tripleOf 𝓤 H A answer.signature (answer.spec 𝓤 H A mem run)
+  Answer = Called 𝓤 H A answer.ended (answer.clauses 𝓤 H A mem run)
 
   abbrev HandedBack : Contract 𝓤
-  HandedBack = tripleOf 𝓤 H A handed-back.signature (handed-back.spec 𝓤 H A mem run)
+  HandedBack = Called 𝓤 H A handed-back.ended (handed-back.clauses 𝓤 H A mem run)
 
 module _ {M : Type 1} (𝓤 : URA M) (H : Heap 𝓤) (A : Atoms 𝓤) (W : Rules 𝓤 H A) (mem : Memory → SProp 𝓤) (run : Routine → Fun 𝓤) (κs : Lfts 3) (qs : Shares 3)
     (tr : RefT (List ℤ)) (zx zy zk : ℤ) (x : RefT (List Candidate)) (ar : RefT (List ℕ)) (rt : Room i32 (length (now tr))) (gx : Is i32 zx (vint w32 (ofZ w32 zx) ∷ [])) (gy : Is i32 zy (vint w32 (ofZ w32 zy) ∷ [])) (gk : Is i32 zk (vint w32 (ofZ w32 zk) ∷ []))
@@ -232,13 +231,13 @@ module _ {M : Type 1} (𝓤 : URA M) (H : Heap 𝓤) (A : Atoms 𝓤) (W : Rules
         pass1 ! (init ! 20 refl (tt, (tt, (record { fits = room .0 }, tt)))) $ pass1 ! (init ! 18 refl (tt, (tt, (record { fits = ra .0 }, tt)))) $ pass0 ! $
         -- each word of the table fits
         move ! (35 ∷ []) $ use1 W (‵ Tabled ⊛ ‵ Tabled) tabled-twice $ split ! $ move ! (34 ∷ 0 ∷ []) $ use2 W (raw (AreWords 𝓤 H A mem run .pre at-words)) goes-words $
-        hands ! fm are-words.ended (are-words.clauses 𝓤 H A mem run) known-words at-words (λ r₀ us. All IsWord ws) (λ r₀ us. id⊢ 𝓤 _) (arg ! 30 refl (no-more !)) (λ w₀ r₀ us words is₀. drop ! $ drop ! $
+        leaves-said ! fm are-words.ended (are-words.clauses 𝓤 H A mem run) known-words at-words (λ r₀ us. All IsWord ws) (λ r₀ us. id⊢ 𝓤 _) (arg ! 30 refl (no-more !)) (λ w₀ r₀ us words is₀. drop ! $
         land ! (from ! (stop !)) (init ! 14 refl (nothing-lawful 𝓤 H A W .typed r₀ _ is₀ .0)) $
         assigns ! (of-opd ! (load ! (from ! (fld ! refl (stop !))) (look-in ! 22 (sub ! 1 refl (whole !))))) (from ! (stop !)) (init ! 12 refl (tt, record { fits = room .0 })) $
         -- what the query gives if the answer list has room
         move ! (1 ∷ []) $ use1 W (‵ Tabled ⊛ ‵ Tabled) tabled-twice $ split ! $ move ! (2 ∷ 0 ∷ []) $ use2 W (raw (QueryGiven 𝓤 H A mem run .pre at-given)) goes-query $
-        hands ! fm query-given.ended (query-given.clauses 𝓤 H A mem run) known-given at-given (λ g us. g ≡ queryGives ws q zk (length ys) (answersTold ws q zk)) (λ g us. id⊢ 𝓤 _)
-        (arg ! 30 refl (arg ! 28 refl (arg ! 26 refl (arg ! 24 refl (arg ! 12 refl (no-more !)))))) (λ w g us e is. drop ! $
+        leaves-said ! fm query-given.ended (query-given.clauses 𝓤 H A mem run) known-given at-given (λ g us. g ≡ queryGives ws q zk (length ys) (answersTold ws q zk)) (λ g us. id⊢ 𝓤 _)
+        (arg ! 30 refl (arg ! 28 refl (arg ! 26 refl (arg ! 24 refl (arg ! 12 refl (no-more !)))))) (λ w g us e is.
         land ! (from ! (stop !)) (init ! 19 refl (EL.lawful G.the-type G′.the-laws 𝓤 H A W tt .typed g _ is .0)) $
         -- whether it is a refusal
         use0 W (raw (IsRefused 𝓤 H A mem run .pre (of-given g w))) (goes-given 𝓤 H A W g w is) $
@@ -262,8 +261,8 @@ module _ {M : Type 1} (𝓤 : URA M) (H : Heap 𝓤) (A : Atoms 𝓤) (W : Rules
         assigns ! (agg ! (arg ! 6 refl (and-then ! (load ! (from ! (fld ! refl (stop !))) (look-in ! 22 (sub ! 1 refl (whole !)))) (no-more !)))) (from ! (stop !)) (init ! 4 refl (tt, (tt, (record { fits = ra .0 }, tt)))) $
         -- both lists are passed on for good
         move ! (3 ∷ []) $ use1 W (‵ Tabled ⊛ ‵ Tabled) tabled-twice $ split ! $ move ! (4 ∷ 37 ∷ 38 ∷ 0 ∷ 2 ∷ 39 ∷ 40 ∷ []) $ group ! 7 $ use1 W (raw (Answer 𝓤 H A mem run .pre (to-answer k w₂))) (goes-answer k w₂ (askable g words e granted)) $
-        hands ! fm answer.ended (answer.clauses 𝓤 H A mem run) known-answer (to-answer k w₂) (λ p vs. Listed ws q k ys (vs .1 .1 .1 .1 .0) (now ar) (vs .1 .1 .1 .1 .1 .0) p) (λ p vs. id⊢ 𝓤 _)
-        (arg ! 31 refl (arg ! 29 refl (arg ! 27 refl (arg ! 13 refl (arg ! 7 refl (arg ! 3 refl (no-more !))))))) (λ w₃ p vs listed isp. last-two ! (λ l₁ l₂. move ! (2 ∷ []) $
+        leaves-said ! fm answer.ended (answer.clauses 𝓤 H A mem run) known-answer (to-answer k w₂) (λ p vs. Listed ws q k ys (vs .1 .1 .1 .1 .0) (now ar) (vs .1 .1 .1 .1 .1 .0) p) (λ p vs. id⊢ 𝓤 _)
+        (arg ! 31 refl (arg ! 29 refl (arg ! 27 refl (arg ! 13 refl (arg ! 7 refl (arg ! 3 refl (no-more !))))))) (λ w₃ p vs listed isp. move ! (4 ∷ 5 ∷ []) $ last-two ! (λ l₁ l₂. move ! (2 ∷ []) $
         land ! (from ! (stop !)) (init ! 22 refl (LL.lawful P.the-type P′.the-laws 𝓤 H A W .typed p _ isp .0)) $
         assigns ! (of-opd ! (load ! (from ! (fld ! refl (stop !))) (look-in ! 26 (sub ! 1 refl (whole !))))) (from ! (stop !)) (store ! 18 refl (tt, record { fits = ra .0 })) $
         use1 W (raw (HandedBack 𝓤 H A mem run .pre (of-reply p w₃))) (goes-reply p w₃) $
