@@ -57,7 +57,7 @@ use Rattle.asking.specs.Asked.{Askable, Filled, Listed}
 use Rattle.record.proofs.Candidate as T
 use Rattle.walks.proofs.Ends.{Called, leaves-said, closes}
 use Rattle.walks.proofs.Frees.{frees-at, sinks}
-use Rattle.walks.proofs.Handed.{last-one}
+use Rattle.walks.proofs.Handed.{arg, last-one}
 use Rattle.walks.proofs.Lends.{row, MutRow, for-none, blank, slices, lays, gathers, lends-row, ends-row, relends, relent, rereads, reread}
 use Rattle.asking.proofs.Outcome.{keepable, kept-room, replies}
 use Rattle.walks.proofs.WalkSteps.{asks-nothing}
@@ -215,11 +215,11 @@ module _ {M : Type 1} (𝓤 : URA M) (H : Heap 𝓤) (A : Atoms 𝓤) (W : Given
         pass1 ! (init ! 36 refl (tt, (tt, (record { fits = rt .0 }, tt)))) $ pass1 ! (init ! 34 refl (sint-lawful 𝓤 H A W w32 .typed zx _ gx .0)) $ pass1 ! (init ! 32 refl (sint-lawful 𝓤 H A W w32 .typed zy _ gy .0)) $ pass1 ! (init ! 30 refl (tt, record { fits = gk })) $ pass1 ! (init ! 28 refl (tt, (tt, (record { fits = room .0 }, tt)))) $ pass1 ! (init ! 26 refl (tt, (tt, (record { fits = ra .0 }, tt)))) $ pass0 ! $
         move ! (40 ∷ []) $ split ! $ move ! (1 ∷ []) $ split ! $ move ! (1 ∷ []) $ split ! $ move ! (44 ∷ []) $ fsplit ! $ move ! (1 ∷ []) $ fsplit ! $ move ! (1 ∷ []) $ fsplit ! $ move ! (1 ∷ []) $ fsplit ! $ move ! (1 ∷ []) $ fsplit ! $ move ! (1 ∷ []) $ fsplit ! $ keep ! (11 ∷ 12 ∷ 13 ∷ 14 ∷ 15 ∷ 16 ∷ 17 ∷ 18 ∷ 19 ∷ 20 ∷ 21 ∷ 22 ∷ 23 ∷ 24 ∷ 25 ∷ 26 ∷ 27 ∷ 28 ∷ 29 ∷ 30 ∷ 31 ∷ 32 ∷ 33 ∷ 34 ∷ 35 ∷ 36 ∷ 37 ∷ 38 ∷ 39 ∷ 40 ∷ 41 ∷ 42 ∷ 43 ∷ 44 ∷ 45 ∷ 46 ∷ 47 ∷ 48 ∷ 49 ∷ 50 ∷ 10 ∷ 9 ∷ 7 ∷ 6 ∷ 2 ∷ 0 ∷ []) $
         assigns ! (addr ! (from ! (fld ! refl (hop ! (look-in ! 28 (sub ! 0 refl (whole !))) (stop !))))) (from ! (stop !)) (init ! 16 refl (tt, tt)) $
-        assigns ! (agg ! (and-then ! (load ! (from ! (stop !)) (look ! 16 refl)) (and-then ! (load ! (from ! (fld ! refl (stop !))) (look-in ! 28 (sub ! 1 refl (whole !)))) (no-more !)))) (from ! (stop !)) (init ! 14 refl (tt, (tt, (record { fits = room .0 }, tt)))) $
+        assigns ! (agg ! (arg ! 16 refl (and-then ! (load ! (from ! (fld ! refl (stop !))) (look-in ! 28 (sub ! 1 refl (whole !)))) (no-more !)))) (from ! (stop !)) (init ! 14 refl (tt, (tt, (record { fits = room .0 }, tt)))) $
         -- the list is lent again to `fill`, for a lifetime ν of the call, and the table is passed on as a copy
         move ! (44 ∷ 41 ∷ []) $ relends ! tt R (κs .1 .0) (qs .1 .0) γ b o (named 1) ys refl (λ ν δ.
         move ! (45 ∷ []) $ use1 W (‵ Tabled ⊛ ‵ Tabled) tabled-twice $ split ! $ move ! (45 ∷ 2 ∷ 0 ∷ 3 ∷ []) $ group ! 4 $ use1 W (raw (Fill 𝓤 H A mem run .pre (to-fill ν δ))) (goes-fill ν δ) $
-        leaves-said ! fm fill.ended (fill.clauses 𝓤 H A mem run) known-fill (to-fill ν δ) (λ seen vs. Filled ws q k ys (vs .1 .1 .1 .1 .0) seen) (λ seen vs. id⊢ 𝓤 _) (and-then ! (load ! (from ! (stop !)) (look ! 39 refl)) (and-then ! (load ! (from ! (stop !)) (look ! 37 refl)) (and-then ! (load ! (from ! (stop !)) (look ! 35 refl)) (and-then ! (load ! (from ! (stop !)) (look ! 33 refl)) (and-then ! (load ! (from ! (stop !)) (look ! 17 refl)) (no-more !)))))) (λ w seen vs filled is.
+        leaves-said ! fm fill.ended (fill.clauses 𝓤 H A mem run) known-fill (to-fill ν δ) (λ seen vs. Filled ws q k ys (vs .1 .1 .1 .1 .0) seen) (λ seen vs. id⊢ 𝓤 _) (arg ! 39 refl (arg ! 37 refl (arg ! 35 refl (arg ! 33 refl (arg ! 17 refl (no-more !)))))) (λ w seen vs filled is.
         -- [what the walk saw; the table's token and ν's; the list's last; the table; what is kept while the list is lent; _19; …; the answers' token; the answers]
         let zs = vs .1 .1 .1 .1 .0 in
         let told : w ∷ [] ≡ S′.lowered seen ∷ [] = LL.tells S.the-type S′.the-laws seen (w ∷ []) is in
@@ -235,12 +235,12 @@ module _ {M : Type 1} (𝓤 : URA M) (H : Heap 𝓤) (A : Atoms 𝓤) (W : Given
         land ! (from ! (stop !)) (init ! 18 refl (typed ks₀ _ is₁ .0)) $ assigns ! (of-opd ! (load ! (from ! (stop !)) (look ! 18 refl))) (from ! (stop !)) (init ! 26 refl (typed ks₀ _ is₁ .0)) $
         move ! (26 ∷ 0 ∷ []) $ lays ! u32 500 l₉ tt ks₀ w₁ (λ n₁.
         assigns ! (addr ! (from ! (fld ! refl (hop ! (look-in ! 33 (sub ! 0 refl (whole !))) (stop !))))) (from ! (stop !)) (init ! 16 refl (tt, tt)) $
-        assigns ! (agg ! (and-then ! (load ! (from ! (stop !)) (look ! 16 refl)) (and-then ! (load ! (from ! (fld ! refl (stop !))) (look-in ! 33 (sub ! 1 refl (whole !)))) (no-more !)))) (from ! (stop !)) (init ! 14 refl (tt, (tt, (record { fits = room .0 }, tt)))) $
+        assigns ! (agg ! (arg ! 16 refl (and-then ! (load ! (from ! (fld ! refl (stop !))) (look-in ! 33 (sub ! 1 refl (whole !)))) (no-more !)))) (from ! (stop !)) (init ! 14 refl (tt, (tt, (record { fits = room .0 }, tt)))) $
         slices ! tt (init ! 12 refl (tt, tt)) (look ! 12 refl) (init ! 10 refl (tt, (tt, (record { fits = lit< tt }, tt)))) $
         lends-row ! tt u32 500 (named 2) l₉ (lit< tt, lit< tt) ks₀ (λ p. move ! (3 ∷ 4 ∷ []) $ rereads ! tt R (κs .1 .0) (qs .1 .0) γ b o (named 1) zs l (λ μ ε.
         move ! (8 ∷ []) $ use1 W (‵ Tabled ⊛ ‵ Tabled) tabled-twice $ split ! $ move ! (9 ∷ 2 ∷ 5 ∷ 0 ∷ 3 ∷ 6 ∷ []) $ group ! 6 $
         use1 W (raw (Keep 𝓤 H A mem run .pre (to-keep l₉ p ks₀ μ ε zs (seen .candidates)))) (goes-keep l₉ p ks₀ μ ε zs (seen .candidates) gm (keeps (length ks₀) (le-of-eq (sym n₁)))) $
-        leaves-said ! fm keep-passing.ended (keep-passing.clauses 𝓤 H A mem run) known-keep (to-keep l₉ p ks₀ μ ε zs (seen .candidates)) (λ c us. KeptIn zs (seen .candidates) ks₀ c (us .1 .1 .1 .1 .0)) (λ c us. id⊢ 𝓤 _) (and-then ! (load ! (from ! (stop !)) (look ! 40 refl)) (and-then ! (load ! (from ! (stop !)) (look ! 13 refl)) (and-then ! (load ! (from ! (stop !)) (look ! 26 refl)) (and-then ! (load ! (from ! (stop !)) (look ! 34 refl)) (and-then ! (load ! (from ! (stop !)) (look ! 9 refl)) (no-more !)))))) (λ w₂ c us kept is₂.
+        leaves-said ! fm keep-passing.ended (keep-passing.clauses 𝓤 H A mem run) known-keep (to-keep l₉ p ks₀ μ ε zs (seen .candidates)) (λ c us. KeptIn zs (seen .candidates) ks₀ c (us .1 .1 .1 .1 .0)) (λ c us. id⊢ 𝓤 _) (arg ! 40 refl (arg ! 13 refl (arg ! 26 refl (arg ! 34 refl (arg ! 9 refl (no-more !)))))) (λ w₂ c us kept is₂.
         -- [how many are kept; the table's token, μ's and the numbers'; their last; the table; what is kept while the list is lent, and while they are; what the walk saw; _19; …]
         let ks = us .1 .1 .1 .1 .0 in
         land ! (from ! (stop !)) (init ! 27 refl (uint-lawful 𝓤 H A W w64 .typed c _ is₂ .0)) $
@@ -249,9 +249,9 @@ module _ {M : Type 1} (𝓤 : URA M) (H : Heap 𝓤) (A : Atoms 𝓤) (W : Given
         assigns ! (of-opd ! (load ! (from ! (stop !)) (look ! 1 refl))) (from ! (stop !)) (store ! 20 refl (typed ks _ is₃ .0)) $
         -- the answer list is passed on for good
         assigns ! (addr ! (from ! (fld ! refl (hop ! (look-in ! 33 (sub ! 0 refl (whole !))) (stop !))))) (from ! (stop !)) (init ! 10 refl (tt, tt)) $
-        assigns ! (agg ! (and-then ! (load ! (from ! (stop !)) (look ! 10 refl)) (and-then ! (load ! (from ! (fld ! refl (stop !))) (look-in ! 33 (sub ! 1 refl (whole !)))) (no-more !)))) (from ! (stop !)) (init ! 8 refl (tt, (tt, (record { fits = ra .0 }, tt)))) $
+        assigns ! (agg ! (arg ! 10 refl (and-then ! (load ! (from ! (fld ! refl (stop !))) (look-in ! 33 (sub ! 1 refl (whole !)))) (no-more !)))) (from ! (stop !)) (init ! 8 refl (tt, (tt, (record { fits = ra .0 }, tt)))) $
         move ! (47 ∷ 7 ∷ 4 ∷ 0 ∷ 48 ∷ []) $ group ! 5 $ use1 W (raw (Replies 𝓤 H A mem run .pre (to-reply seen (S′.lowered seen) c w₂ ks v))) (goes-reply seen (S′.lowered seen) c w₂ ks v (kept-room (pre .table) q grid k filled (pre .room) c ks ks₀ (kept .0) (kept .1))) $
-        leaves-said ! fm put-answers.ended (put-answers.clauses 𝓤 H A mem run) known-reply (to-reply seen (S′.lowered seen) c w₂ ks v) (λ r ts. RepliedTo seen c ks (ts .1 .1 .1 .0) r) (λ r ts. id⊢ 𝓤 _) (and-then ! (load ! (from ! (stop !)) (look ! 29 refl)) (and-then ! (load ! (from ! (stop !)) (look ! 24 refl)) (and-then ! (load ! (from ! (stop !)) (look ! 18 refl)) (and-then ! (load ! (from ! (stop !)) (look ! 6 refl)) (no-more !))))) (λ u r ts told′ is₄.
+        leaves-said ! fm put-answers.ended (put-answers.clauses 𝓤 H A mem run) known-reply (to-reply seen (S′.lowered seen) c w₂ ks v) (λ r ts. RepliedTo seen c ks (ts .1 .1 .1 .0) r) (λ r ts. id⊢ 𝓤 _) (arg ! 29 refl (arg ! 24 refl (arg ! 18 refl (arg ! 6 refl (no-more !))))) (λ u r ts told′ is₄.
         -- [the reply; its token; the answers' last; the numbers; the list; its token; the table's; the table; _19; …]
         land ! (from ! (stop !)) (init ! 45 refl (LL.lawful P.the-type P′.the-laws 𝓤 H A W .typed r _ is₄ .0)) $ move ! (2 ∷ []) $ last-one ! (λ l′.
         returns ! (look ! 45 refl) $ move ! (3 ∷ []) $ sinks ! 27 $ frees-at ! 7 refl $

@@ -64,6 +64,7 @@ use Rattle.asking.specs.Asked.{Askable, Filled}
 use Rattle.record.proofs.Candidate as T
 use Rattle.walks.proofs.Ends.{Called, leaves-said, closes}
 use Rattle.walks.proofs.Frees.{frees-at, sinks}
+use Rattle.walks.proofs.Handed.{arg}
 use Rattle.walks.proofs.Lends.{row, MutRow, ShrRow, for-none, blank, slices, lays, lends-row, ends-row, shares-row, frees-row}
 use Rattle.asking.proofs.Outcome.{points-most, hand-room, filled}
 use Rattle.walks.proofs.WalkSteps.{asks-nothing, three-facts}
@@ -241,7 +242,7 @@ module _ {M : Type 1} (𝓤 : URA M) (H : Heap 𝓤) (A : Atoms 𝓤) (W : Given
         let ask : Rooms (pointsOf ws) (rows ns₀ xs₀ ys₀ ss₀) = rooms ns₀ xs₀ ys₀ ss₀ n₁ n₂ n₃ n₄ in
         use1 W (raw (Find 𝓤 H A mem run .pre (to-find l₆ l₇ l₈ l₉ p₁ p₂ p₃ p₄ ns₀ xs₀ ys₀ ss₀))) (goes-find l₆ l₇ l₈ l₉ p₁ p₂ p₃ p₄ ns₀ xs₀ ys₀ ss₀ ask) $
         leaves-said ! fm find.ended (find.clauses 𝓤 H A mem run) known-find (to-find l₆ l₇ l₈ l₉ p₁ p₂ p₃ p₄ ns₀ xs₀ ys₀ ss₀) (λ seen zs. NotedIn ns₀ xs₀ ys₀ ss₀ zs seen) (λ seen zs. id⊢ 𝓤 _)
-        (and-then ! (load ! (from ! (stop !)) (look ! 64 refl)) (and-then ! (load ! (from ! (stop !)) (look ! 62 refl)) (and-then ! (load ! (from ! (stop !)) (look ! 60 refl)) (and-then ! (load ! (from ! (stop !)) (look ! 58 refl)) (and-then ! (load ! (from ! (stop !)) (look ! 40 refl)) (and-then ! (load ! (from ! (stop !)) (look ! 36 refl)) (and-then ! (load ! (from ! (stop !)) (look ! 32 refl)) (and-then ! (load ! (from ! (stop !)) (look ! 28 refl)) (no-more !))))))))) (λ w seen zs noted is.
+        (arg ! 64 refl (arg ! 62 refl (arg ! 60 refl (arg ! 58 refl (arg ! 40 refl (arg ! 36 refl (arg ! 32 refl (arg ! 28 refl (no-more !))))))))) (λ w seen zs noted is.
         -- [what the walk saw; five tokens; the rows' last; the table; what is kept while the rows are lent; _32; …]
         let told : w ∷ [] ≡ S′.lowered seen ∷ [] = LL.tells S.the-type S′.the-laws seen (w ∷ []) is in
         let wt = LL.lawful S.the-type S′.the-laws 𝓤 H A W .typed seen _ (subst (Is S.the-row seen) told is) .0 in
@@ -256,7 +257,7 @@ module _ {M : Type 1} (𝓤 : URA M) (H : Heap 𝓤) (A : Atoms 𝓤) (W : Given
         move ! (4 ∷ 10 ∷ 6 ∷ []) $ ends-row ! tt i32 500 l₈ p₃ ys₁ $
         move ! (5 ∷ 8 ∷ 6 ∷ []) $ ends-row ! tt u64 500 l₉ p₄ ss₁ $
         assigns ! (addr ! (from ! (fld ! refl (hop ! (look-in ! 57 (sub ! 0 refl (whole !))) (stop !))))) (from ! (stop !)) (init ! 25 refl (tt, tt)) $
-        assigns ! (agg ! (and-then ! (load ! (from ! (stop !)) (look ! 25 refl)) (and-then ! (load ! (from ! (fld ! refl (stop !))) (look-in ! 57 (sub ! 1 refl (whole !)))) (no-more !)))) (from ! (stop !)) (init ! 23 refl (tt, (tt, (record { fits = room .0 }, tt)))) $
+        assigns ! (agg ! (arg ! 25 refl (and-then ! (load ! (from ! (fld ! refl (stop !))) (look-in ! 57 (sub ! 1 refl (whole !)))) (no-more !)))) (from ! (stop !)) (init ! 23 refl (tt, (tt, (record { fits = room .0 }, tt)))) $
         slices ! tt (init ! 21 refl (tt, tt)) (look ! 21 refl) (init ! 19 refl (tt, (tt, (record { fits = lit< tt }, tt)))) $
         slices ! tt (init ! 17 refl (tt, tt)) (look ! 17 refl) (init ! 15 refl (tt, (tt, (record { fits = lit< tt }, tt)))) $
         slices ! tt (init ! 13 refl (tt, tt)) (look ! 13 refl) (init ! 11 refl (tt, (tt, (record { fits = lit< tt }, tt)))) $
@@ -268,7 +269,7 @@ module _ {M : Type 1} (𝓤 : URA M) (H : Heap 𝓤) (A : Atoms 𝓤) (W : Given
         move ! (77 ∷ 9 ∷ 6 ∷ 3 ∷ 0 ∷ 78 ∷ 10 ∷ 7 ∷ 4 ∷ 1 ∷ []) $ group ! 10 $
         use1 W (raw (HandOver 𝓤 H A mem run .pre (to-hand l₆ l₇ l₈ l₉ o₁ o₂ o₃ o₄ ns₁ xs₁ ys₁ ss₁ (seen .candidates)))) (goes-hand l₆ l₇ l₈ l₉ o₁ o₂ o₃ o₄ ns₁ xs₁ ys₁ ss₁ (seen .candidates) enough) $
         leaves-said ! fm hand-over.ended (hand-over.clauses 𝓤 H A mem run) known-hand (to-hand l₆ l₇ l₈ l₉ o₁ o₂ o₃ o₄ ns₁ xs₁ ys₁ ss₁ (seen .candidates)) (λ r vs. vs .0 ≡ laidOver (candidatesIn (rows ns₁ xs₁ ys₁ ss₁) (seen .candidates)) ys) (λ r vs. id⊢ 𝓤 _)
-        (and-then ! (load ! (from ! (stop !)) (look ! 24 refl)) (and-then ! (load ! (from ! (stop !)) (look ! 20 refl)) (and-then ! (load ! (from ! (stop !)) (look ! 16 refl)) (and-then ! (load ! (from ! (stop !)) (look ! 12 refl)) (and-then ! (load ! (from ! (stop !)) (look ! 8 refl)) (and-then ! (load ! (from ! (stop !)) (look ! 50 refl)) (no-more !))))))) (λ u r vs handed is′.
+        (arg ! 24 refl (arg ! 20 refl (arg ! 16 refl (arg ! 12 refl (arg ! 8 refl (arg ! 50 refl (no-more !))))))) (λ u r vs handed is′.
         -- [the result; five tokens; the list's last; what is kept while the rows are lent; what the walk saw; the table's token; the table; _32; …]
         land ! (from ! (stop !)) (init ! 34 refl (nothing-lawful 𝓤 H A W .typed r _ is′ .0)) $ move ! (6 ∷ []) $ fsplit ! $ move ! (1 ∷ []) $ feqL ! (λ long.
         move ! (3 ∷ 10 ∷ []) $ frees-row ! tt i32 500 l₆ o₁ ns₁ $

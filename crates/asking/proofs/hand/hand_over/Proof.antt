@@ -50,6 +50,7 @@ use Rattle.record.proofs.Candidate as T
 use Rattle.record.proofs.Candidate.Laws as T′
 use Rattle.walks.proofs.Ends.{Called, answers, leaves-said, closes}
 use Rattle.walks.proofs.Frees.{frees-at}
+use Rattle.walks.proofs.Handed.{arg}
 use Rattle.walks.proofs.Lends.{relends, relent}
 use Rattle.walks.proofs.Turns.{NearerTo, NearerTo-wf, Turned}
 use Rattle.asking.proofs.Laid.{hand-start, hand-step}
@@ -252,14 +253,14 @@ module _ {M : Type 1} (𝓤 : URA M) (H : Heap 𝓤) (A : Atoms 𝓤) (W : Given
         (λ less. skips ! $ exec ! C Λ En more (anyQ (Turned 𝓤 H A Nearer At C Λ En mir′.t-3 Post i)) $
         -- […; what the list owns; the token; the rows' tokens; what the rows own]: the rows are passed on as a copy
         move ! (29 ∷ []) $ use1 W (‵ Rowed ⊛ ‵ Rowed) rowed-twice $ split ! $ move ! (30 ∷ 0 ∷ []) $ use2 W (raw (CandidateAt 𝓤 H A mem run .pre (at-row (i .0)))) (goes-row (i .0) (within less)) $
-        answers ! fm candidate-at.ended (candidate-at.clauses 𝓤 H A mem run) known-row (at-row (i .0)) (λ v. v ≡ candidateIn rs (i .0)) (λ v ws. id⊢ 𝓤 _) (and-then ! (load ! (from ! (stop !)) (look ! 22 refl)) (and-then ! (load ! (from ! (stop !)) (look ! 20 refl)) (and-then ! (load ! (from ! (stop !)) (look ! 18 refl)) (and-then ! (load ! (from ! (stop !)) (look ! 16 refl)) (and-then ! (load ! (from ! (stop !)) (look ! 12 refl)) (no-more !)))))) (λ w v e is.
+        answers ! fm candidate-at.ended (candidate-at.clauses 𝓤 H A mem run) known-row (at-row (i .0)) (λ v. v ≡ candidateIn rs (i .0)) (λ v ws. id⊢ 𝓤 _) (arg ! 22 refl (arg ! 20 refl (arg ! 18 refl (arg ! 16 refl (arg ! 12 refl (no-more !)))))) (λ w v e is.
         land ! (from ! (stop !)) (init ! 11 refl (LL.lawful T.the-type T′.the-laws 𝓤 H A W .typed v _ is .0)) $
         assigns ! (addr ! (from ! (fld ! refl (hop ! (look-in ! 25 (sub ! 0 refl (whole !))) (stop !))))) (from ! (stop !)) (init ! 5 refl (tt, tt)) $
-        assigns ! (agg ! (and-then ! (load ! (from ! (stop !)) (look ! 5 refl)) (and-then ! (load ! (from ! (fld ! refl (stop !))) (look-in ! 25 (sub ! 1 refl (whole !)))) (no-more !)))) (from ! (stop !)) (init ! 3 refl (tt, (tt, (record { fits = room .0 }, tt)))) $
+        assigns ! (agg ! (arg ! 5 refl (and-then ! (load ! (from ! (fld ! refl (stop !))) (look-in ! 25 (sub ! 1 refl (whole !)))) (no-more !)))) (from ! (stop !)) (init ! 3 refl (tt, (tt, (record { fits = room .0 }, tt)))) $
         -- the list is lent again, for a lifetime ν of the call
         move ! (29 ∷ 30 ∷ []) $ relends ! tt R (κs .0) (qs .0) γ b o (named 0) (i .2) (i .3) (λ ν δ.
         move ! (0 ∷ 1 ∷ 3 ∷ []) $ use3 W (raw (Append 𝓤 H A mem run .pre (to ν δ (i .2) (i .0) v w))) (goes ν δ (i .2) (i .0) v w (stands less) (fits i)) $
-        leaves-said ! fm append.ended (append.clauses 𝓤 H A mem run) known (to ν δ (i .2) (i .0) v w) (λ r ws. ws .0 ≡ set (i .2) (i .0) v) (λ r ws. id⊢ 𝓤 _) (and-then ! (load ! (from ! (stop !)) (look ! 4 refl)) (and-then ! (load ! (from ! (stop !)) (look ! 14 refl)) (and-then ! (load ! (from ! (stop !)) (look ! 12 refl)) (no-more !)))) (λ u r ws f is′.
+        leaves-said ! fm append.ended (append.clauses 𝓤 H A mem run) known (to ν δ (i .2) (i .0) v w) (λ r ws. ws .0 ≡ set (i .2) (i .0) v) (λ r ws. id⊢ 𝓤 _) (arg ! 4 refl (arg ! 14 refl (arg ! 12 refl (no-more !)))) (λ u r ws f is′.
         -- [the result; its token; the list's last; what is kept while it is lent; the rows' tokens; the rows; _12; …]
         land ! (from ! (stop !)) (init ! 10 refl (nothing-lawful 𝓤 H A W .typed r _ is′ .0)) $
         move ! (1 ∷ 3 ∷ 2 ∷ []) $ relent ! tt R (κs .0) (qs .0) γ b o (named 0) (i .2) (subst (Room R) (sym (i .3)) room) ν δ (ws .0) (λ l.

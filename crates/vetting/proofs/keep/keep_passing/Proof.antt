@@ -52,6 +52,7 @@ use Rattle.record.proofs.Candidate as T
 use Rattle.record.proofs.Candidate.Laws as T′
 use Rattle.walks.proofs.Ends.{Called, leaves-said, closes}
 use Rattle.walks.proofs.Frees.{frees-at}
+use Rattle.walks.proofs.Handed.{arg}
 use Rattle.walks.proofs.Lends.{relends, relent}
 use Rattle.walks.proofs.Turns.{NearerTo, NearerTo-wf, Turned}
 use Rattle.vetting.proofs.Passed.{Kept, kept-none, kept-next}
@@ -265,21 +266,21 @@ module _ {M : Type 1} (𝓤 : URA M) (H : Heap 𝓤) (A : Atoms 𝓤) (W : Given
         (λ less. skips ! $ exec ! C Λ En more (anyQ (Turned 𝓤 H A Nearer At C Λ En mir′.t-4 Post i)) $
         -- record i is read back: the list is passed on as a copy
         move ! (31 ∷ []) $ use1 W (‵ Listed ⊛ ‵ Listed) (shr-slice-copy 𝓤 H A W (named 1) (κs .1 .0) R .twice lr (s₂ ∷ [])) $ split ! $ move ! (31 ∷ 0 ∷ []) $ use2 W (raw (RecordAt 𝓤 H A mem run .pre (at-record (i .0)))) (goes-record (i .0) (within less)) $
-        leaves-said ! fm record-at.ended (record-at.clauses 𝓤 H A mem run) known-record (at-record (i .0)) (λ c ls. c ≡ getD cs (i .0) none) (λ c ls. id⊢ 𝓤 _) (and-then ! (load ! (from ! (stop !)) (look ! 22 refl)) (and-then ! (load ! (from ! (stop !)) (look ! 12 refl)) (no-more !))) (λ w c ls e is.
+        leaves-said ! fm record-at.ended (record-at.clauses 𝓤 H A mem run) known-record (at-record (i .0)) (λ c ls. c ≡ getD cs (i .0) none) (λ c ls. id⊢ 𝓤 _) (arg ! 22 refl (arg ! 12 refl (no-more !))) (λ w c ls e is.
         land ! (from ! (stop !)) (init ! 11 refl (LL.lawful T.the-type T′.the-laws 𝓤 H A W .typed c _ is .0)) $
         -- those that are nearer to it are counted: the list is passed on as a copy, and c is made again of what it is
         move ! (2 ∷ []) $ use1 W (‵ Listed ⊛ ‵ Listed) (shr-slice-copy 𝓤 H A W (named 1) (κs .1 .0) R .twice lr (s₂ ∷ [])) $ split ! $ move ! (3 ∷ 0 ∷ 2 ∷ []) $ use3 W (raw (NearerIn 𝓤 H A mem run .pre (to-near c w))) (goes-near (i .0) c w (within less) e) $
-        leaves-said ! fm nearer-in.ended (nearer-in.clauses 𝓤 H A mem run) known-near (to-near c w) (λ near ls. near ≡ nearerAmong (take m cs) c) (λ near ls. id⊢ 𝓤 _) (and-then ! (load ! (from ! (stop !)) (look ! 22 refl)) (and-then ! (load ! (from ! (stop !)) (look ! 20 refl)) (and-then ! (load ! (from ! (stop !)) (look ! 10 refl)) (no-more !)))) (λ v near ls en isn.
+        leaves-said ! fm nearer-in.ended (nearer-in.clauses 𝓤 H A mem run) known-near (to-near c w) (λ near ls. near ≡ nearerAmong (take m cs) c) (λ near ls. id⊢ 𝓤 _) (arg ! 22 refl (arg ! 20 refl (arg ! 10 refl (no-more !)))) (λ v near ls en isn.
         land ! (from ! (stop !)) (init ! 9 refl (uint-lawful 𝓤 H A W w64 .typed near _ isn .0)) $
         rewrite ! 9 (λ (z : Val). ‵ (fat fullShare word l₉ 0 z)) (ap only (isn .0)) refl $
         drop ! $ owned ! R (Is R) ((LL.makes T.the-type T′.the-plain) 𝓤 H A) c _ is $
         assigns ! (addr ! (from ! (fld ! refl (hop ! (look-in ! 17 (sub ! 0 refl (whole !))) (stop !))))) (from ! (stop !)) (init ! 5 refl (tt, tt)) $
-        assigns ! (agg ! (and-then ! (load ! (from ! (stop !)) (look ! 5 refl)) (and-then ! (load ! (from ! (fld ! refl (stop !))) (look-in ! 17 (sub ! 1 refl (whole !)))) (no-more !)))) (from ! (stop !)) (init ! 3 refl (tt, (tt, (record { fits = room .0 }, tt)))) $
+        assigns ! (agg ! (arg ! 5 refl (and-then ! (load ! (from ! (fld ! refl (stop !))) (look-in ! 17 (sub ! 1 refl (whole !)))) (no-more !)))) (from ! (stop !)) (init ! 3 refl (tt, (tt, (record { fits = room .0 }, tt)))) $
         -- the kept numbers are lent again, for a lifetime ν of the call, and the table is passed on as a copy
         move ! (29 ∷ 30 ∷ []) $ relends ! tt u32 (κs .1 .1 .0) (qs .1 .1 .0) γ b o (named 2) (i .3) (i .4 .long) (λ ν δ.
         move ! (33 ∷ []) $ use1 W (‵ Tabled ⊛ ‵ Tabled) (shr-slice-copy 𝓤 H A W (named 0) (κs .0) i32 .twice tr (s₁ ∷ [])) $ split ! $ move ! (34 ∷ 2 ∷ 0 ∷ 5 ∷ 3 ∷ []) $ group ! 5 $
         use1 W (raw (Noted 𝓤 H A mem run .pre (to ν δ i c w near))) (goes ν δ i c w near (isn .1) less e en) $
-        leaves-said ! fm noted.ended (noted.clauses 𝓤 H A mem run) known (to ν δ i c w near) (λ r ls. NotedAs i c r (ls .1 .1 .1 .1 .0)) (λ r ls. id⊢ 𝓤 _) (and-then ! (load ! (from ! (stop !)) (look ! 27 refl)) (and-then ! (load ! (from ! (stop !)) (look ! 13 refl)) (and-then ! (load ! (from ! (stop !)) (look ! 11 refl)) (and-then ! (load ! (from ! (stop !)) (look ! 21 refl)) (and-then ! (load ! (from ! (stop !)) (look ! 5 refl)) (and-then ! (load ! (from ! (stop !)) (look ! 17 refl)) (no-more !))))))) (λ u r ls f is′.
+        leaves-said ! fm noted.ended (noted.clauses 𝓤 H A mem run) known (to ν δ i c w near) (λ r ls. NotedAs i c r (ls .1 .1 .1 .1 .0)) (λ r ls. id⊢ 𝓤 _) (arg ! 27 refl (arg ! 13 refl (arg ! 11 refl (arg ! 21 refl (arg ! 5 refl (arg ! 17 refl (no-more !))))))) (λ u r ls f is′.
         -- [the result; both tokens; the numbers' last; the table; what is kept while they are lent; the list's token; the list; _12; …]
         land ! (from ! (stop !)) (store ! 20 refl (uint-lawful 𝓤 H A W w64 .typed r _ is′ .0)) $
         rewrite ! 20 (λ (v : Val). ‵ (fat fullShare word l₆ 0 v)) (ap only (is′ .0)) refl $

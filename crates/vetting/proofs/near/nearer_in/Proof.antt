@@ -22,7 +22,7 @@ use ghost.Atoms.{Atoms, sem}
 use contract.Monad.{Fun}
 use contract.Running.{givenOf, tables, tablesOf}
 use types.Kit.{Given, Item, ‵, raw, runs, anyQ, atRet, Sq, _⊛_, ⋆, _$_, _∵_, !, qed, by, move, keep, use1, use2, split, join, rewrite, fsplit, fjoin, suffices, frame, done}
-use types.Run.{look, init, store, forget, stop, from, load, lit, of-opd, bin, and-then, no-more, assigns, assigns-last, land, first, skips, jumps, blocks, branches, returns, enter, alloc1, alloc0, params1, pass1, pass0, exec, again, loops}
+use types.Run.{look, init, store, forget, stop, from, load, lit, of-opd, bin, no-more, assigns, assigns-last, land, first, skips, jumps, blocks, branches, returns, enter, alloc1, alloc0, params1, pass1, pass0, exec, again, loops}
 use sound.WpLaws.{FmC}
 use denote.RattleType.{RattleType, owns}
 use denote.Laws.{Is}
@@ -48,6 +48,7 @@ use Rattle.record.proofs.Candidate as T
 use Rattle.record.proofs.Candidate.Laws as T′
 use Rattle.walks.proofs.Ends.{Called, leaves-said, closes}
 use Rattle.walks.proofs.Frees.{frees-at}
+use Rattle.walks.proofs.Handed.{arg}
 use Rattle.walks.proofs.Turns.{NearerTo, NearerTo-wf, Turned}
 use Rattle.vetting.proofs.Nearby.{Counted, counted-none, counted-next}
 use Rattle.record.proofs.record_at as record-at
@@ -189,11 +190,11 @@ module _ {M : Type 1} (𝓤 : URA M) (H : Heap 𝓤) (A : Atoms 𝓤) (W : Given
         (λ less. skips ! $ exec ! C Λ En more (anyQ (Turned 𝓤 H A Nearer At C Λ En mir′.t-4 Post i)) $
         -- record i is read back: the list is passed on as a copy
         move ! (19 ∷ []) $ use1 W (‵ Listed ⊛ ‵ Listed) (shr-slice-copy 𝓤 H A W (named 0) κ R .twice lr (s ∷ [])) $ split ! $ move ! (20 ∷ 0 ∷ []) $ use2 W (raw (RecordAt 𝓤 H A mem run .pre (at-record (i .0)))) (goes-record (i .0) (within less)) $
-        leaves-said ! fm record-at.ended (record-at.clauses 𝓤 H A mem run) known-record (at-record (i .0)) (λ d ws. d ≡ getD cs (i .0) none) (λ d ws. id⊢ 𝓤 _) (and-then ! (load ! (from ! (stop !)) (look ! 16 refl)) (and-then ! (load ! (from ! (stop !)) (look ! 8 refl)) (no-more !))) (λ w d ws e is.
+        leaves-said ! fm record-at.ended (record-at.clauses 𝓤 H A mem run) known-record (at-record (i .0)) (λ d ws. d ≡ getD cs (i .0) none) (λ d ws. id⊢ 𝓤 _) (arg ! 16 refl (arg ! 8 refl (no-more !))) (λ w d ws e is.
         land ! (from ! (stop !)) (init ! 7 refl (LL.lawful T.the-type T′.the-laws 𝓤 H A W .typed d _ is .0)) $
         -- it is compared with c
         use1 W (raw (NearerOne 𝓤 H A mem run .pre (to-one d w))) (goes-one (i .0) d w (within less) e) $
-        leaves-said ! fm nearer-one.ended (nearer-one.clauses 𝓤 H A mem run) known-one (to-one d w) (λ r ws. r ≡ one (nearerAs c d)) (λ r ws. id⊢ 𝓤 _) (and-then ! (load ! (from ! (stop !)) (look ! 7 refl)) (and-then ! (load ! (from ! (stop !)) (look ! 13 refl)) (no-more !))) (λ u r ws g is′.
+        leaves-said ! fm nearer-one.ended (nearer-one.clauses 𝓤 H A mem run) known-one (to-one d w) (λ r ws. r ≡ one (nearerAs c d)) (λ r ws. id⊢ 𝓤 _) (arg ! 7 refl (arg ! 13 refl (no-more !))) (λ u r ws g is′.
         land ! (from ! (stop !)) (init ! 3 refl (uint-lawful 𝓤 H A W w64 .typed r _ is′ .0)) $
         rewrite ! 3 (λ (v : Val). ‵ (fat fullShare word l₈ 0 v)) (ap only (is′ .0)) refl $
         assigns ! (bin ! (load ! (from ! (stop !)) (look ! 11 refl)) (load ! (from ! (stop !)) (look ! 3 refl)) (record { fits = few (next less d r e g) })) (from ! (stop !)) (store ! 11 refl (tt, record { fits = few (next less d r e g) })) $
