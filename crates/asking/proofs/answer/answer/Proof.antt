@@ -57,7 +57,7 @@ use Rattle.asking.specs.Asked.{Askable, Filled, Listed}
 use Rattle.record.proofs.Candidate as T
 use Rattle.walks.proofs.Ends.{Called, leaves-said, closes}
 use Rattle.walks.proofs.Frees.{frees-at, sinks}
-use Rattle.walks.proofs.Handed.{apart, arg, last-one}
+use Rattle.walks.proofs.Handed.{apart, stack, arg, last-one}
 use Rattle.walks.proofs.Lends.{row, MutRow, for-none, blank, slices, lays, gathers, lends-row, ends-row, relends, relent, rereads, reread}
 use Rattle.asking.proofs.Outcome.{keepable, kept-room, replies}
 use Rattle.walks.proofs.WalkSteps.{asks-nothing}
@@ -155,7 +155,7 @@ module _ {M : Type 1} (𝓤 : URA M) (H : Heap 𝓤) (A : Atoms 𝓤) (W : Given
   goes-fill : (ν : ℕ) (δ : GName) → ent 𝓤 (⋆ 𝓤 H A (‵ (flft (κs .0) (qs .0)) ∷ ‵ (flft (ν ∷ []) fullShare) ∷ ‵ Tabled ∷ ‵ (MutSlice (named 1) (ν ∷ []) R .own (x δ ys) (s ∷ [])) ∷ [])) (Fill 𝓤 H A mem run .pre (to-fill ν δ))
   goes-fill ν δ =
       qed W (‵ (flft (κs .0) (qs .0)) ∷ ‵ (flft (ν ∷ []) fullShare) ∷ ‵ Tabled ∷ ‵ (MutSlice (named 1) (ν ∷ []) R .own (x δ ys) (s ∷ [])) ∷ []) ∵
-      says ! pre $ nothing ! $ move ! (2 ∷ 0 ∷ []) $ join ! $ move ! (1 ∷ 0 ∷ []) $ join ! $ frame ! $
+      says ! pre $ stack ! 2 $ frame ! $
       nothing ! $ move ! (2 ∷ 0 ∷ []) $ fjoin ! $ owned ! usize (Is usize) (uint-makes 𝓤 H A W w64) k _ (refl, gk) $ fjoin ! $ owned ! i32 (Is i32) (sint-makes 𝓤 H A W w32) zy _ gy $ fjoin ! $ owned ! i32 (Is i32) (sint-makes 𝓤 H A W w32) zx _ gx $ fjoin ! $ move ! (1 ∷ 0 ∷ []) $ fjoin ! $ done !
 
   -- what `keep_passing`'s triple binds outside: the list lent to be read for the lifetime μ, under the name ε, and the numbers in the local array at d
@@ -170,7 +170,7 @@ module _ {M : Type 1} (𝓤 : URA M) (H : Heap 𝓤) (A : Atoms 𝓤) (W : Given
         → ent 𝓤 (⋆ 𝓤 H A (‵ (flft (κs .0) (qs .0)) ∷ ‵ (flft (μ ∷ []) fullShare) ∷ ‵ (flft (p .0 ∷ []) fullShare) ∷ ‵ Tabled ∷ ‵ (ShrSlice (named 1) (μ ∷ []) R .own (x ε zs) (s ∷ [])) ∷ ‵ (MutRow u32 500 (named 2) d p ks) ∷ [])) (Keep 𝓤 H A mem run .pre to-keep)
     goes-keep gm ask =
         qed W (‵ (flft (κs .0) (qs .0)) ∷ ‵ (flft (μ ∷ []) fullShare) ∷ ‵ (flft (p .0 ∷ []) fullShare) ∷ ‵ Tabled ∷ ‵ (ShrSlice (named 1) (μ ∷ []) R .own (x ε zs) (s ∷ [])) ∷ ‵ (MutRow u32 500 (named 2) d p ks) ∷ []) ∵
-        says ! ask $ nothing ! $ move ! (3 ∷ 0 ∷ []) $ join ! $ move ! (2 ∷ 0 ∷ []) $ join ! $ move ! (1 ∷ 0 ∷ []) $ join ! $ frame ! $
+        says ! ask $ stack ! 3 $ frame ! $
         nothing ! $ move ! (3 ∷ 0 ∷ []) $ fjoin ! $ owned ! usize (Is usize) (uint-makes 𝓤 H A W w64) k _ (refl, gk) $ fjoin ! $ owned ! usize (Is usize) (uint-makes 𝓤 H A W w64) m _ (refl, gm) $ fjoin ! $ move ! (2 ∷ 0 ∷ []) $ fjoin ! $ move ! (1 ∷ 0 ∷ []) $ fjoin ! $ done !
 
   -- what it ensures
@@ -188,8 +188,8 @@ module _ {M : Type 1} (𝓤 : URA M) (H : Heap 𝓤) (A : Atoms 𝓤) (W : Given
       → ent 𝓤 (⋆ 𝓤 H A (‵ (flft (κs .1 .1 .0) (qs .1 .1 .0)) ∷ ‵ (S.the-row .own seen (w ∷ [])) ∷ ‵ (usize .own c (u ∷ [])) ∷ ‵ (Array u32 500 .own ks (v ∷ [])) ∷ ‵ (MutSlice (named 2) (κs .1 .1 .0) u32 .own ar (s₂ ∷ [])) ∷ [])) (Replies 𝓤 H A mem run .pre (to-reply seen w c u ks v))
   goes-reply seen w c u ks v ask =
       qed W (‵ (flft (κs .1 .1 .0) (qs .1 .1 .0)) ∷ ‵ (S.the-row .own seen (w ∷ [])) ∷ ‵ (usize .own c (u ∷ [])) ∷ ‵ (Array u32 500 .own ks (v ∷ [])) ∷ ‵ (MutSlice (named 2) (κs .1 .1 .0) u32 .own ar (s₂ ∷ [])) ∷ []) ∵
-      says ! ask $ nothing ! $ move ! (1 ∷ 0 ∷ []) $ join ! $ frame ! $
-      nothing ! $ move ! (4 ∷ 0 ∷ []) $ fjoin ! $ move ! (3 ∷ 0 ∷ []) $ fjoin ! $ move ! (2 ∷ 0 ∷ []) $ fjoin ! $ move ! (1 ∷ 0 ∷ []) $ fjoin ! $ done !
+      says ! ask $ stack ! 1 $ frame ! $
+      stack ! 4 $ done !
 
   -- what it ensures
   abbrev RepliedTo : Seen → ℕ → List ℕ → List ℕ → Reply → Type 0

@@ -22,7 +22,7 @@ use ghost.Atoms.{Atoms}
 use contract.Monad.{Fun}
 use contract.Lifetimes.{Lfts, Shares}
 use contract.Running.{givenOf}
-use types.Kit.{Given, ‵, raw, _⊛_, ⋆, _$_, _∵_, !, qed, by, move, keep, use1, group, split, join, rewrite, fsplit, fjoin, feqL, suffices, frame, done}
+use types.Kit.{Given, ‵, raw, _⊛_, ⋆, _$_, _∵_, !, qed, by, move, keep, use1, group, split, rewrite, fsplit, fjoin, feqL, suffices, frame, done}
 use types.Run.{look, init, store, stop, hop, fld, from, load, addr, of-opd, and-then, no-more, assigns, land, returns, enter, alloc1, alloc0, params1, pass1, pass0}
 use types.Part.{agg, whole, sub, look-in}
 use sound.WpLaws.{FmC}
@@ -64,7 +64,7 @@ use Rattle.asking.specs.Asked.{Askable, Filled}
 use Rattle.record.proofs.Candidate as T
 use Rattle.walks.proofs.Ends.{Called, leaves-said, closes}
 use Rattle.walks.proofs.Frees.{frees-at, sinks}
-use Rattle.walks.proofs.Handed.{apart, arg}
+use Rattle.walks.proofs.Handed.{apart, stack, arg}
 use Rattle.walks.proofs.Lends.{row, MutRow, ShrRow, for-none, blank, slices, lays, lends-row, ends-row, shares-row, frees-row}
 use Rattle.asking.proofs.Outcome.{points-most, hand-room, filled}
 use Rattle.walks.proofs.WalkSteps.{asks-nothing, three-facts}
@@ -182,7 +182,7 @@ module _ {M : Type 1} (𝓤 : URA M) (H : Heap 𝓤) (A : Atoms 𝓤) (W : Given
     goes-find ask =
         qed W (‵ (flft (κs .0) (qs .0)) ∷ ‵ (flft (p₁ .0 ∷ []) fullShare) ∷ ‵ (flft (p₂ .0 ∷ []) fullShare) ∷ ‵ (flft (p₃ .0 ∷ []) fullShare) ∷ ‵ (flft (p₄ .0 ∷ []) fullShare) ∷ ‵ Tabled ∷ ‵ (MutRow i32 500 (named 1) b₁ p₁ ns) ∷ ‵ (MutRow i32 500 (named 2) b₂ p₂ xs) ∷ ‵ (MutRow i32 500 (named 3) b₃ p₃ zs) ∷ ‵ (MutRow u64 500 (named 4) b₄ p₄ ss) ∷ []) ∵
         suffices ! _ (three-facts 𝓤 H A W _ {φ = (length ws ≡ LENGTH) × All IsWord ws × (wellFormed ws ≡ true)} {ψ = (onGrid zx ≡ true) × (onGrid zy ≡ true)} {χ = Rooms (pointsOf ws) (rows ns xs zs ss)} (pre .table .long, pre .table .words, pre .table .rules) (pre .x, pre .y) ask) $
-        nothing ! $ move ! (5 ∷ 0 ∷ []) $ join ! $ move ! (4 ∷ 0 ∷ []) $ join ! $ move ! (3 ∷ 0 ∷ []) $ join ! $ move ! (2 ∷ 0 ∷ []) $ join ! $ move ! (1 ∷ 0 ∷ []) $ join ! $ frame ! $
+        stack ! 5 $ frame ! $
         nothing ! $ move ! (5 ∷ 0 ∷ []) $ fjoin ! $ move ! (4 ∷ 0 ∷ []) $ fjoin ! $ move ! (3 ∷ 0 ∷ []) $ fjoin ! $ move ! (2 ∷ 0 ∷ []) $ fjoin ! $
         owned ! usize (Is usize) (uint-makes 𝓤 H A W w64) k _ (refl, gk) $ fjoin ! $ owned ! i32 (Is i32) (sint-makes 𝓤 H A W w32) zy _ gy $ fjoin ! $ owned ! i32 (Is i32) (sint-makes 𝓤 H A W w32) zx _ gx $ fjoin ! $ move ! (1 ∷ 0 ∷ []) $ fjoin ! $ done !
 
@@ -194,7 +194,7 @@ module _ {M : Type 1} (𝓤 : URA M) (H : Heap 𝓤) (A : Atoms 𝓤) (W : Given
           → ent 𝓤 (⋆ 𝓤 H A (‵ (flft (κs .1 .0) (qs .1 .0)) ∷ ‵ (flft (p₁ .0 ∷ []) fullShare) ∷ ‵ (flft (p₂ .0 ∷ []) fullShare) ∷ ‵ (flft (p₃ .0 ∷ []) fullShare) ∷ ‵ (flft (p₄ .0 ∷ []) fullShare) ∷ ‵ Listed ∷ ‵ (ShrRow i32 500 (named 1) b₁ p₁ ns) ∷ ‵ (ShrRow i32 500 (named 2) b₂ p₂ xs) ∷ ‵ (ShrRow i32 500 (named 3) b₃ p₃ zs) ∷ ‵ (ShrRow u64 500 (named 4) b₄ p₄ ss) ∷ [])) (HandOver 𝓤 H A mem run .pre to-hand)
       goes-hand enough =
           qed W (‵ (flft (κs .1 .0) (qs .1 .0)) ∷ ‵ (flft (p₁ .0 ∷ []) fullShare) ∷ ‵ (flft (p₂ .0 ∷ []) fullShare) ∷ ‵ (flft (p₃ .0 ∷ []) fullShare) ∷ ‵ (flft (p₄ .0 ∷ []) fullShare) ∷ ‵ Listed ∷ ‵ (ShrRow i32 500 (named 1) b₁ p₁ ns) ∷ ‵ (ShrRow i32 500 (named 2) b₂ p₂ xs) ∷ ‵ (ShrRow i32 500 (named 3) b₃ p₃ zs) ∷ ‵ (ShrRow u64 500 (named 4) b₄ p₄ ss) ∷ []) ∵
-          says ! enough $ nothing ! $ move ! (5 ∷ 0 ∷ []) $ join ! $ move ! (4 ∷ 0 ∷ []) $ join ! $ move ! (3 ∷ 0 ∷ []) $ join ! $ move ! (2 ∷ 0 ∷ []) $ join ! $ move ! (1 ∷ 0 ∷ []) $ join ! $ frame ! $
+          says ! enough $ stack ! 5 $ frame ! $
           nothing ! $ owned ! usize (Is usize) (uint-makes 𝓤 H A W w64) m _ (refl, lt-of-le-of-lt (enough .1) (room .0)) $ fjoin ! $ move ! (5 ∷ 0 ∷ []) $ fjoin ! $ move ! (4 ∷ 0 ∷ []) $ fjoin ! $ move ! (3 ∷ 0 ∷ []) $ fjoin ! $ move ! (2 ∷ 0 ∷ []) $ fjoin ! $ move ! (1 ∷ 0 ∷ []) $ fjoin ! $ done !
 
   exits : (seen : Seen) (zs : List Candidate) → length zs ≡ length ys → Filled ws q k ys zs seen
@@ -202,7 +202,7 @@ module _ {M : Type 1} (𝓤 : URA M) (H : Heap 𝓤) (A : Atoms 𝓤) (W : Given
   exits seen zs l e =
       qed W (‵ (flft (κs .0) (qs .0)) ∷ ‵ (flft (κs .1 .0) (qs .1 .0)) ∷ ‵ Tabled ∷ ‵ (finally R (x .name) zs) ∷ ‵ (S.the-row .own seen (S′.lowered seen ∷ [])) ∷ []) ∵
       suffices ! _ (ends-at 𝓤 H A f.ended stayed (f.clauses 𝓤 H A mem run) W ((κs, qs, tt, a, at), tt) (S′.lowered seen) seen (tt, (tt, (tt, (tt, (zs, tt))))) (tt, (tt, (tt, (tt, (l, tt)))))) $ says ! e $
-      nothing ! $ move ! (2 ∷ 0 ∷ []) $ join ! $ move ! (1 ∷ 0 ∷ []) $ join ! $ frame ! $
+      stack ! 2 $ frame ! $
       nothing ! $ move ! (2 ∷ 0 ∷ []) $ fjoin ! $ owned ! usize (Is usize) (uint-makes 𝓤 H A W w64) k _ (refl, gk) $ fjoin ! $ owned ! i32 (Is i32) (sint-makes 𝓤 H A W w32) zy _ gy $ fjoin ! $ owned ! i32 (Is i32) (sint-makes 𝓤 H A W w32) zx _ gx $ fjoin ! $ move ! (1 ∷ 0 ∷ []) $ fjoin ! $ done !
 
   module _ (C : Calls 𝓤 H) (Λ : Loops 𝓤 H) (fm : FmC 𝓤 H (W .laws) C) (known-words : Triple 𝓤 (C #asking·fill·words) (Called 𝓤 H A words.ended (words.clauses 𝓤 H A mem run))) (known-squares : Triple 𝓤 (C #asking·fill·squares) (Called 𝓤 H A squares.ended (squares.clauses 𝓤 H A mem run)))

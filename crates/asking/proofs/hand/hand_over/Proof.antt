@@ -50,7 +50,7 @@ use Rattle.record.proofs.Candidate as T
 use Rattle.record.proofs.Candidate.Laws as T′
 use Rattle.walks.proofs.Ends.{Called, answers, leaves-said, closes}
 use Rattle.walks.proofs.Frees.{frees-at}
-use Rattle.walks.proofs.Handed.{arg}
+use Rattle.walks.proofs.Handed.{stack, arg}
 use Rattle.walks.proofs.Lends.{relends, relent}
 use Rattle.walks.proofs.Turns.{NearerTo, NearerTo-wf, Turned}
 use Rattle.asking.proofs.Laid.{hand-start, hand-step}
@@ -206,7 +206,7 @@ module _ {M : Type 1} (𝓤 : URA M) (H : Heap 𝓤) (A : Atoms 𝓤) (W : Given
   goes : (ν : ℕ) (δ : GName) (zs : List Candidate) (i : ℕ) (v : Candidate) (w : Val) → i < length zs → i < 2 ^ 64
       → ent 𝓤 (sep 𝓤 (A .lft (ν ∷ []) fullShare) (sep 𝓤 (sem 𝓤 H A (MutSlice (named 0) (ν ∷ []) R .own (x δ zs) (s ∷ []))) (sem 𝓤 H A (R .own v (w ∷ []))))) (Append 𝓤 H A mem run .pre (to ν δ zs i v w))
   goes ν δ zs i v w within gi =
-      qed W (‵ (flft (ν ∷ []) fullShare) ∷ ‵ (MutSlice (named 0) (ν ∷ []) R .own (x δ zs) (s ∷ [])) ∷ ‵ (R .own v (w ∷ [])) ∷ []) ∵ says ! within $ nothing ! $ move ! (1 ∷ 0 ∷ []) $ join ! $ frame ! $
+      qed W (‵ (flft (ν ∷ []) fullShare) ∷ ‵ (MutSlice (named 0) (ν ∷ []) R .own (x δ zs) (s ∷ [])) ∷ ‵ (R .own v (w ∷ [])) ∷ []) ∵ says ! within $ stack ! 1 $ frame ! $
       nothing ! $ move ! (2 ∷ 0 ∷ []) $ fjoin ! $ owned ! usize (Is usize) (uint-makes 𝓤 H A W w64) i _ (refl, gi) $ fjoin ! $ move ! (1 ∷ 0 ∷ []) $ fjoin ! $ done !
 
   exits : (zs : List Candidate) → length zs ≡ length ys → zs ≡ laidOver (candidatesIn rs m) ys → ent 𝓤 (⋆ 𝓤 H A (‵ (Own zs) ∷ ‵ (flft (κs .0) (qs .0)) ∷ raw Tokens ∷ ‵ Rowed ∷ [])) (Post vunit)

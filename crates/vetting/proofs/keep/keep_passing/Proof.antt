@@ -52,7 +52,7 @@ use Rattle.record.proofs.Candidate as T
 use Rattle.record.proofs.Candidate.Laws as T′
 use Rattle.walks.proofs.Ends.{Called, leaves-said, closes}
 use Rattle.walks.proofs.Frees.{frees-at}
-use Rattle.walks.proofs.Handed.{apart, arg}
+use Rattle.walks.proofs.Handed.{apart, stack, arg}
 use Rattle.walks.proofs.Lends.{relends, relent}
 use Rattle.walks.proofs.Turns.{NearerTo, NearerTo-wf, Turned}
 use Rattle.vetting.proofs.Passed.{Kept, kept-none, kept-next}
@@ -169,7 +169,7 @@ module _ {M : Type 1} (𝓤 : URA M) (H : Heap 𝓤) (A : Atoms 𝓤) (W : Given
 
   goes-record : (i : ℕ) → i < m → ent 𝓤 (sep 𝓤 (A .lft (κs .1 .0) (qs .1 .0)) (sem 𝓤 H A Listed)) (RecordAt 𝓤 H A mem run .pre (at-record i))
   goes-record i less =
-      qed W (‵ (flft (κs .1 .0) (qs .1 .0)) ∷ ‵ Listed ∷ []) ∵ says ! (lt-of-lt-of-le less (pre .list .room)) $ nothing ! $ move ! (1 ∷ 0 ∷ []) $ join ! $ frame ! $
+      qed W (‵ (flft (κs .1 .0) (qs .1 .0)) ∷ ‵ Listed ∷ []) ∵ says ! (lt-of-lt-of-le less (pre .list .room)) $ stack ! 1 $ frame ! $
       nothing ! $ owned ! usize (Is usize) (uint-makes 𝓤 H A W w64) i _ (refl, lt-of-lt-of-le less (le-of-lt gm)) $ fjoin ! $ move ! (1 ∷ 0 ∷ []) $ fjoin ! $ done !
 
   -- what `nearer_in`'s triple binds outside: the record c at the machine value w
@@ -186,7 +186,7 @@ module _ {M : Type 1} (𝓤 : URA M) (H : Heap 𝓤) (A : Atoms 𝓤) (W : Given
   goes-near : (i : ℕ) (c : Candidate) (w : Val) → i < m → c ≡ getD cs i none
       → ent 𝓤 (sep 𝓤 (A .lft (κs .1 .0) (qs .1 .0)) (sep 𝓤 (sem 𝓤 H A Listed) (sem 𝓤 H A (R .own c (w ∷ []))))) (NearerIn 𝓤 H A mem run .pre (to-near c w))
   goes-near i c w less e =
-      qed W (‵ (flft (κs .1 .0) (qs .1 .0)) ∷ ‵ Listed ∷ ‵ (R .own c (w ∷ [])) ∷ []) ∵ says ! (pre .list, is-point i c less e) $ nothing ! $ move ! (1 ∷ 0 ∷ []) $ join ! $ frame ! $
+      qed W (‵ (flft (κs .1 .0) (qs .1 .0)) ∷ ‵ Listed ∷ ‵ (R .own c (w ∷ [])) ∷ []) ∵ says ! (pre .list, is-point i c less e) $ stack ! 1 $ frame ! $
       nothing ! $ move ! (2 ∷ 0 ∷ []) $ fjoin ! $ owned ! usize (Is usize) (uint-makes 𝓤 H A W w64) m _ (refl, gm) $ fjoin ! $ move ! (1 ∷ 0 ∷ []) $ fjoin ! $ done !
 
   -- where a turn begins: i records were read, n numbers are kept, and they stand in ks
@@ -218,7 +218,7 @@ module _ {M : Type 1} (𝓤 : URA M) (H : Heap 𝓤) (A : Atoms 𝓤) (W : Given
       let l : i .0 < m = ltb→lt (i .0) m less in
       qed W (‵ (flft (κs .0) (qs .0)) ∷ ‵ (flft (ν ∷ []) fullShare) ∷ ‵ Tabled ∷ ‵ (R .own c (w ∷ [])) ∷ ‵ (MutSlice (named 2) (ν ∷ []) u32 .own (x δ (i .3)) (s ∷ [])) ∷ []) ∵
       says ! (pre .table, is-point (i .0) c l e, omega (arith, i .4 .few, i .4 .long, pre .places), crowded (i .0) c near l e f) $
-      nothing ! $ move ! (2 ∷ 0 ∷ []) $ join ! $ move ! (1 ∷ 0 ∷ []) $ join ! $ frame ! $
+      stack ! 2 $ frame ! $
       nothing ! $ owned ! usize (Is usize) (uint-makes 𝓤 H A W w64) (i .2) _ (refl, few i) $ fjoin ! $ move ! (3 ∷ 0 ∷ []) $ fjoin ! $ owned ! usize (Is usize) (uint-makes 𝓤 H A W w64) k _ (refl, gk) $ fjoin ! $
       owned ! usize (Is usize) (uint-makes 𝓤 H A W w64) near _ (refl, gn) $ fjoin ! $ move ! (2 ∷ 0 ∷ []) $ fjoin ! $ move ! (1 ∷ 0 ∷ []) $ fjoin ! $ done !
 

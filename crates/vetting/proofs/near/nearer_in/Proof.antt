@@ -21,7 +21,7 @@ use prog.Wp.{Heap, Env, afterTurn, Calls, Loops, WpFn, Tables}
 use ghost.Atoms.{Atoms, sem}
 use contract.Monad.{Fun}
 use contract.Running.{givenOf, tables, tablesOf}
-use types.Kit.{Given, Item, ‵, raw, runs, anyQ, atRet, Sq, _⊛_, ⋆, _$_, _∵_, !, qed, by, move, keep, use1, use2, split, join, rewrite, fjoin, suffices, frame, done}
+use types.Kit.{Given, Item, ‵, raw, runs, anyQ, atRet, Sq, _⊛_, ⋆, _$_, _∵_, !, qed, by, move, keep, use1, use2, split, rewrite, fjoin, suffices, frame, done}
 use types.Run.{look, init, store, forget, stop, from, load, lit, of-opd, bin, no-more, assigns, assigns-last, land, first, skips, jumps, blocks, branches, returns, enter, alloc1, alloc0, params1, pass1, pass0, exec, again, loops}
 use sound.WpLaws.{FmC}
 use denote.RattleType.{RattleType}
@@ -48,7 +48,7 @@ use Rattle.record.proofs.Candidate as T
 use Rattle.record.proofs.Candidate.Laws as T′
 use Rattle.walks.proofs.Ends.{Called, leaves-said, closes}
 use Rattle.walks.proofs.Frees.{frees-at}
-use Rattle.walks.proofs.Handed.{apart, arg}
+use Rattle.walks.proofs.Handed.{apart, stack, arg}
 use Rattle.walks.proofs.Turns.{NearerTo, NearerTo-wf, Turned}
 use Rattle.vetting.proofs.Nearby.{Counted, counted-none, counted-next}
 use Rattle.record.proofs.record_at as record-at
@@ -132,7 +132,7 @@ module _ {M : Type 1} (𝓤 : URA M) (H : Heap 𝓤) (A : Atoms 𝓤) (W : Given
 
   goes-record : (i : ℕ) → i < m → ent 𝓤 (sep 𝓤 (A .lft κ q) (sem 𝓤 H A Listed)) (RecordAt 𝓤 H A mem run .pre (at-record i))
   goes-record i less =
-      qed W (‵ (flft κ q) ∷ ‵ Listed ∷ []) ∵ says ! (lt-of-lt-of-le less (pre .0 .room)) $ nothing ! $ move ! (1 ∷ 0 ∷ []) $ join ! $ frame ! $
+      qed W (‵ (flft κ q) ∷ ‵ Listed ∷ []) ∵ says ! (lt-of-lt-of-le less (pre .0 .room)) $ stack ! 1 $ frame ! $
       nothing ! $ owned ! usize (Is usize) (uint-makes 𝓤 H A W w64) i _ (refl, lt-of-lt-of-le less (le-of-lt gm)) $ fjoin ! $ move ! (1 ∷ 0 ∷ []) $ fjoin ! $ done !
 
   -- what `nearer_one`'s triple binds outside: the record d at the machine value w, and c
@@ -158,7 +158,7 @@ module _ {M : Type 1} (𝓤 : URA M) (H : Heap 𝓤) (A : Atoms 𝓤) (W : Given
   exits n g e =
       qed W (‵ (flft κ q) ∷ ‵ Listed ∷ []) ∵
       suffices ! _ (ends-at 𝓤 H A f.ended stayed (f.clauses 𝓤 H A mem run) W (((κ, tt), (q, tt), tt, a, at), tt) (vint w64 n) n (tt, (tt, (tt, tt))) (tt, (tt, (tt, tt)))) $ says ! e $
-      nothing ! $ move ! (1 ∷ 0 ∷ []) $ join ! $ frame ! $
+      stack ! 1 $ frame ! $
       nothing ! $ owned ! R (Is R) ((LL.makes T.the-type T′.the-plain) 𝓤 H A) c _ gc $ fjoin ! $ owned ! usize (Is usize) (uint-makes 𝓤 H A W w64) m _ (refl, gm) $ fjoin ! $ move ! (1 ∷ 0 ∷ []) $ fjoin ! $
       owned ! usize (Is usize) (uint-makes 𝓤 H A W w64) n _ (refl, g) $ move ! (1 ∷ 0 ∷ []) $ done !
 
