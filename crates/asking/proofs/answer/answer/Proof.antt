@@ -1,4 +1,4 @@
--- `asking::answer::answer` meets its contract: a walk of its MIR, by hand. The list is lent again to `fill` (`Again.antt`), then to be read to `keep_passing` (`Reshared.antt`). The kept numbers are a local array, which is lent, comes back (`LentRow.antt`) and is passed on by value. The answer list is passed on at its own lifetime, share and name (`gave-slice`).
+-- `asking::answer::answer` meets its contract: a walk of its MIR, by hand. The list is lent again to `fill`, then to be read to `keep_passing`. The kept numbers are a local array, which is lent, comes back and is passed on by value (all three: `Lends.antt`). The answer list is passed on at its own lifetime, share and name (`gave-slice`).
 -- Assumes nothing.
 use mathlib.Core.Path.{_≡_, refl, sym, ap, subst}
 use Prim.Native.Nat.{ℕ, _≤_, _<_, _^_}

@@ -1,4 +1,4 @@
--- `asking::fill::fill` meets its contract: a walk of its MIR, by hand. The four rows are local arrays: each is lent to `find`, comes back, is lent to `hand_over` to be read, and comes back (`LentRow.antt`). The list is passed on to `hand_over` at its own lifetime, share and name (`gave-slice`), and is given up for good.
+-- `asking::fill::fill` meets its contract: a walk of its MIR, by hand. The four rows are local arrays: each is lent to `find`, comes back, is lent to `hand_over` to be read, and comes back (`Lends.antt`). The list is passed on to `hand_over` at its own lifetime, share and name (`gave-slice`), and is given up for good.
 -- Assumes nothing.
 use mathlib.Core.Path.{_≡_, refl, ap, subst}
 use Prim.Native.Nat.{ℕ, _≤_, _<_, _^_}
