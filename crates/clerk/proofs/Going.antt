@@ -158,7 +158,7 @@ module _ (sheet : Bytes) (at number : ℕ) (before : State) (out : Bytes) where
     over : goesOn sheet (length out) s ≡ false → (at < length sheet → at < r .at) → RanLines sheet at number before now out left r
     over e further = record {
       exact = subst (λ t. LeftAt t now out left r) (sym (ended e)) (g .here);
-      passes = record { long = g .passing .long; rules = g .passing .rules };
+      passes = (g .passing .long, g .passing .rules);
       places = g .places;
       onward = g .onward;
       further = further;

@@ -1,13 +1,13 @@
 -- Line after line, as the code runs them: the table and the answer list are lent, and the output lines are laid into a lent buffer.
 use Prim.Native.Nat.{ℕ, zero, suc, _+_, _*_, _≤_, _<_}
 use mathlib.Core.Path.{_≡_}
-use mathlib.Core.Bool.{Bool, true, cond, _&&_}
+use mathlib.Core.Bool.{Bool, cond, _&&_}
 use mathlib.Core.List.{List, [], _++_}
 use lib.Dec.{leb, ltb}
 use lib.ListN.{length, take, drop}
-use Rattle.figures.specs.Figures.{MOST, LENGTH}
+use Rattle.figures.specs.Figures.{MOST}
 use Rattle.table.specs.Words.{Words}
-use Rattle.rules.specs.Rules.{wellFormed}
+use Rattle.rules.specs.Rules.{Passes}
 use Rattle.table.specs.Given.{numberGiven}
 use Rattle.sheet.specs.Bytes.{Bytes, linesOf}
 use Rattle.sheet.specs.Marks.{lineOf, nextOf}
@@ -19,11 +19,6 @@ use Rattle.clerk.specs.Sheet.{State, ranJob, ranLine, lineOutput, linesO
 -- what is lent: the table and the answer list
 abbrev pub lent : Words → List ℕ → State
 lent ws ns = record { words = ws; answers = ns }
-
--- a table that passes the check
-pub record Passes (ws : Words) : Type 0 where
-  pub long : length ws ≡ LENGTH
-  pub rules : wellFormed ws ≡ true
 
 -- ---- one line
 

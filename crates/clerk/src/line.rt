@@ -2,7 +2,8 @@
 // The sheet's table passes the check by the invariant of the loop over the lines, so no line pays for a check.
 ghost use Prim.Native.Nat.{_+_, _≤_};
 ghost use lib.ListN.{length};
-ghost use Rattle.clerk.specs.Running.{lent, Passes, longestLine, RanJob, RanOne};
+ghost use Rattle.rules.specs.Rules.{Passes};
+ghost use Rattle.clerk.specs.Running.{lent, longestLine, RanJob, RanOne};
 use desk::answers::answers_passing;
 use desk::enrol::enrol_passing;
 use desk::withdraw::withdraw_passing;

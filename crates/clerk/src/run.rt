@@ -2,7 +2,8 @@
 ghost use mathlib.Core.Path.{_≡_};
 ghost use Prim.Native.Nat.{_+_, _≤_, _<_, _^_};
 ghost use lib.ListN.{length};
-ghost use Rattle.clerk.specs.Running.{lent, Passes, longestLine, RanLines};
+ghost use Rattle.rules.specs.Rules.{Passes};
+ghost use Rattle.clerk.specs.Running.{lent, longestLine, RanLines};
 use crate::line::run_line;
 use sheet::reader::line_here;
 use sheet::reader::next_here;
@@ -36,12 +37,10 @@ pub fn run_lines(
         Passes (now table) × (at ≤ length (now sheet)) × (number + length (now sheet) < 2 ^ 64)
         × (longestLine (length (now answers)) ≤ length (now out))
         ⌝ }
-    ensures { λ r.
-        ⌜
+    ensures { λ r. ⌜
         RanLines (now (sheet .entry)) at number
         (lent (now (table .entry)) (now (answers .entry))) (lent (now (table .exit)) (now (answers .exit)))
-        (now (out .entry)) (now (out .exit)) r
-        ⌝ }
+        (now (out .entry)) (now (out .exit)) r ⌝ }
 {
     // Every call keeps the table well formed, and its words within 32 bits, as they are here.
     are_words(table);

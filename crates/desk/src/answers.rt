@@ -1,9 +1,5 @@
 // A query for who wants the answers alone: its candidate list is made for it, lent to it, and gone with it.
-ghost use mathlib.Core.Path.{_≡_};
-ghost use mathlib.Core.Bool.{true};
-ghost use lib.ListN.{length};
-ghost use Rattle.figures.specs.Figures.{LENGTH};
-ghost use Rattle.rules.specs.Rules.{wellFormed};
+ghost use Rattle.rules.specs.Rules.{Passes};
 ghost use Rattle.refusals.specs.Refusals.{site};
 ghost use Rattle.desk.specs.Alone.{AnswersAlone};
 use crate::query::query_passing;
@@ -24,7 +20,7 @@ fn blank_list() -> [Candidate; Table::MOST] {
 
 // Answers a query on a table that passes the check, without a check.
 pub fn answers_passing(table: &[i32], x: i32, y: i32, k: i32, answers: &mut [u32]) -> Answered
-    requires { ⌜ (length (now table) ≡ LENGTH) × (wellFormed (now table) ≡ true) ⌝ }
+    requires { ⌜ Passes (now table) ⌝ }
     ensures { λ r. ⌜ AnswersAlone (now (table .entry)) (site x y) k (now (answers .entry)) (now (answers .exit)) r ⌝ }
 {
     let mut candidates = blank_list();

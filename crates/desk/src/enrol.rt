@@ -1,9 +1,6 @@
 // Enrolment, with its refusals in document 01's order: 1, 2, 3, 4, 6, 7.
 ghost use mathlib.Core.Path.{_≡_};
-ghost use mathlib.Core.Bool.{true};
-ghost use lib.ListN.{length};
-ghost use Rattle.figures.specs.Figures.{LENGTH};
-ghost use Rattle.rules.specs.Rules.{wellFormed};
+ghost use Rattle.rules.specs.Rules.{Passes};
 ghost use Rattle.refusals.specs.Refusals.{site, enrolGives};
 ghost use Rattle.desk.specs.Calls.{pointEntry, afterEnrol};
 use audit::check;
@@ -31,7 +28,7 @@ fn point_entry(number: i32, x: i32, y: i32) -> Entry
 
 // Enrols on a table that passes the check. Who knows that it passes, as the job sheet does, pays for no check.
 pub fn enrol_passing(table: &mut [i32], number: i32, x: i32, y: i32) -> Given
-    requires { ⌜ (length (now table) ≡ LENGTH) × (wellFormed (now table) ≡ true) ⌝ }
+    requires { ⌜ Passes (now table) ⌝ }
     ensures given { λ r. ⌜ r ≡ enrolGives (now (table .entry)) number (site x y) ⌝ }
     ensures words { λ _. ⌜ now (table .exit) ≡ afterEnrol (now (table .entry)) number (site x y) ⌝ }
 {

@@ -1,9 +1,5 @@
 // The reverse k-nearest query, with its refusals in document 01's order: 1, 2, 4, 5, 9, 10. The candidate list is a lent row of records.
-ghost use mathlib.Core.Path.{_≡_};
-ghost use mathlib.Core.Bool.{true};
-ghost use lib.ListN.{length};
-ghost use Rattle.figures.specs.Figures.{LENGTH};
-ghost use Rattle.rules.specs.Rules.{wellFormed};
+ghost use Rattle.rules.specs.Rules.{Passes};
 ghost use Rattle.refusals.specs.Refusals.{site};
 ghost use Rattle.desk.specs.Lent.{Answers};
 use asking::answer::answer;
@@ -26,7 +22,7 @@ pub fn query_passing(
     candidates: &mut [Candidate],
     answers: &mut [u32],
 ) -> Answered
-    requires { ⌜ (length (now table) ≡ LENGTH) × (wellFormed (now table) ≡ true) ⌝ }
+    requires { ⌜ Passes (now table) ⌝ }
     ensures { λ r.
         ⌜
         Answers (now (table .entry)) (site x y) k (now (candidates .entry)) (now (candidates .exit)) (now (answers .entry))

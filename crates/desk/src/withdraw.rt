@@ -1,9 +1,6 @@
 // Withdrawal, with its refusals in document 01's order: 1, 2, 3, 8.
 ghost use mathlib.Core.Path.{_≡_};
-ghost use mathlib.Core.Bool.{true};
-ghost use lib.ListN.{length};
-ghost use Rattle.figures.specs.Figures.{LENGTH};
-ghost use Rattle.rules.specs.Rules.{wellFormed};
+ghost use Rattle.rules.specs.Rules.{Passes};
 ghost use Rattle.refusals.specs.Refusals.{withdrawGives};
 ghost use Rattle.desk.specs.Calls.{afterWithdraw};
 use audit::check;
@@ -15,7 +12,7 @@ use words::lent::are_words;
 
 // Withdraws from a table that passes the check, without a check.
 pub fn withdraw_passing(table: &mut [i32], number: i32) -> Given
-    requires { ⌜ (length (now table) ≡ LENGTH) × (wellFormed (now table) ≡ true) ⌝ }
+    requires { ⌜ Passes (now table) ⌝ }
     ensures given { λ r. ⌜ r ≡ withdrawGives (now (table .entry)) number ⌝ }
     ensures words { λ _. ⌜ now (table .exit) ≡ afterWithdraw (now (table .entry)) number ⌝ }
 {

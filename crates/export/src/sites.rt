@@ -1,10 +1,7 @@
 // How many answers each of many places has, on a table that passes the check: who asks for many pays for one check.
 ghost use mathlib.Core.Path.{_≡_};
-ghost use mathlib.Core.Bool.{true};
 ghost use Prim.Native.Nat.{min};
-ghost use lib.ListN.{length};
-ghost use Rattle.figures.specs.Figures.{LENGTH};
-ghost use Rattle.rules.specs.Rules.{wellFormed};
+ghost use Rattle.rules.specs.Rules.{Passes};
 ghost use Rattle.refusals.specs.Refusals.{site};
 ghost use Rattle.export.specs.Sites.{siteCount, countsOver};
 use desk::answers::answers_passing;
@@ -18,7 +15,7 @@ fn blank_answers() -> [u32; Table::MOST] {
 
 // How many answers one place has.
 fn count_at(table: &[i32], x: i32, y: i32, k: i32) -> u32
-    requires { ⌜ (length (now table) ≡ LENGTH) × (wellFormed (now table) ≡ true) ⌝ }
+    requires { ⌜ Passes (now table) ⌝ }
     ensures { λ r. ⌜ r ≡ siteCount (now (table .entry)) k (site x y) ⌝ }
 {
     let mut answers = blank_answers();
@@ -38,7 +35,7 @@ fn lesser(a: usize, b: usize) -> usize
 
 // The counts of the places, one after the other, until a list or the row of counts ends.
 pub(crate) fn count_all(table: &[i32], xs: &[i32], ys: &[i32], k: i32, counts: &mut [u32])
-    requires { ⌜ (length (now table) ≡ LENGTH) × (wellFormed (now table) ≡ true) ⌝ }
+    requires { ⌜ Passes (now table) ⌝ }
     ensures { λ _.
         ⌜
         now (counts .exit) ≡ countsOver (now (table .entry)) k (now (xs .entry)) (now (ys .entry)) (now (counts .entry))

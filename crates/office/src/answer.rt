@@ -1,9 +1,10 @@
 // Answering a sheet: the clerk fills the output buffer, the buffer is written, and so on to the sheet's end.
 ghost use Prim.Native.Nat.{_≤_};
 ghost use lib.ListN.{length};
+ghost use Rattle.rules.specs.Rules.{Passes};
 ghost use Rattle.slip.specs.Output.{Laid};
 ghost use Rattle.clerk.specs.Sheet.{LONGEST, tooLongLine};
-ghost use Rattle.clerk.specs.Running.{Passes, longestLine};
+ghost use Rattle.clerk.specs.Running.{longestLine};
 use clerk::run::run_lines;
 use clerk::start::clear;
 use figures::Table;

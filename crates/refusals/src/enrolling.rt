@@ -1,16 +1,13 @@
 // When an enrolment on a table that passes the check is refused: 3, 4, 6, 7.
 ghost use mathlib.Core.Path.{_≡_};
-ghost use mathlib.Core.Bool.{true};
-ghost use lib.ListN.{length};
-ghost use Rattle.figures.specs.Figures.{LENGTH};
-ghost use Rattle.rules.specs.Rules.{wellFormed};
+ghost use Rattle.rules.specs.Rules.{Passes};
 ghost use Rattle.refusals.specs.Refusals.{site, enrolGives};
 use crate::refuse;
 use table::given::Given;
 
 // What an enrolment gives on a table that passes the check: 3, 4, 6, 7.
 pub fn enrol_given(table: &[i32], number: i32, x: i32, y: i32) -> Given
-    requires { ⌜ (length (now table) ≡ LENGTH) × (wellFormed (now table) ≡ true) ⌝ }
+    requires { ⌜ Passes (now table) ⌝ }
     ensures { λ r. ⌜ r ≡ enrolGives (now (table .entry)) number (site x y) ⌝ }
 {
     if refuse::no_such_number(number) {

@@ -1,10 +1,8 @@
 // When a query on a table that passes the check is refused, by what it asks and by its candidate list: 4, 5, 9.
 ghost use mathlib.Core.Path.{_≡_};
-ghost use mathlib.Core.Bool.{true};
 ghost use lib.ListN.{length};
 ghost use Rattle.words.specs.Word.{natOf};
-ghost use Rattle.figures.specs.Figures.{LENGTH};
-ghost use Rattle.rules.specs.Rules.{wellFormed};
+ghost use Rattle.rules.specs.Rules.{Passes};
 ghost use Rattle.filter.specs.Query.{answersFound};
 ghost use Rattle.refusals.specs.Refusals.{site, queryGives};
 use crate::refuse;
@@ -13,7 +11,7 @@ use table::slot;
 
 // What a query gives on a table that passes the check if its answer list has room for all answers: 4, 5, 9.
 pub fn query_given(table: &[i32], x: i32, y: i32, k: i32, room: usize) -> Given
-    requires { ⌜ (length (now table) ≡ LENGTH) × (wellFormed (now table) ≡ true) ⌝ }
+    requires { ⌜ Passes (now table) ⌝ }
     ensures { λ r.
         ⌜
         r ≡ queryGives (now (table .entry)) (site x y) k room (length (answersFound (now (table .entry)) (site x y) (natOf k)))

@@ -1,16 +1,13 @@
 // When a withdrawal on a table that passes the check is refused: 3, 8.
 ghost use mathlib.Core.Path.{_≡_};
-ghost use mathlib.Core.Bool.{true};
-ghost use lib.ListN.{length};
-ghost use Rattle.figures.specs.Figures.{LENGTH};
-ghost use Rattle.rules.specs.Rules.{wellFormed};
+ghost use Rattle.rules.specs.Rules.{Passes};
 ghost use Rattle.refusals.specs.Refusals.{withdrawGives};
 use crate::refuse;
 use table::given::Given;
 
 // What a withdrawal gives on a table that passes the check: 3, 8.
 pub fn withdraw_given(table: &[i32], number: i32) -> Given
-    requires { ⌜ (length (now table) ≡ LENGTH) × (wellFormed (now table) ≡ true) ⌝ }
+    requires { ⌜ Passes (now table) ⌝ }
     ensures { λ r. ⌜ r ≡ withdrawGives (now (table .entry)) number ⌝ }
 {
     if refuse::no_such_number(number) {

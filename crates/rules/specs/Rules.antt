@@ -117,7 +117,11 @@ wellFormed ws =
     && (every (rule6 ws) slots
     && (rule7Header ws && every (rule7 ws) slots))))))
 
--- a lent table that the check passes
+-- a table that passes the check
+abbrev pub Passes : Words → Type 0
+Passes ws = (length ws ≡ LENGTH) × (wellFormed ws ≡ true)
+
+-- a lent one: each of its words fits 32 bits
 pub record Passing (ws : Words) : Type 0 where
   pub long : length ws ≡ LENGTH
   pub words : All IsWord ws

@@ -31,7 +31,7 @@ loop-holds c =
     let s = c .before .before .before .before .before .before in
     let a = s .args in
     let before = lent (a .table .now) (a .answers .now) in
-    (going-first (a .sheet .now) (a .at) (a .number) before (a .out .now) (record { long = s .pre .0 .long; words = c .before .are-words .ensures; rules = s .pre .0 .rules }) (s .pre .1), refl)
+    (going-first (a .sheet .now) (a .at) (a .number) before (a .out .now) (record { long = s .pre .0 .0; words = c .before .are-words .ensures; rules = s .pre .0 .1 }) (s .pre .1), refl)
 
 add-if2 : tie.Need-add-if2 Inv-loop μ-loop
 add-if2 c = search needs
@@ -55,7 +55,7 @@ run-line-requires : tie.Need-run-line-requires Inv-loop μ-loop
 run-line-requires c κs =
     let l = c .before .before .before .before .before .before .before .before in
     let g = l .loop .inv .0 in
-    (record { long = g .passing .long; rules = g .passing .rules }, omega (arith, g .places, l .loop .inv .1))
+    ((g .passing .long, g .passing .rules), omega (arith, g .places, l .loop .inv .1))
 
 next-here-requires : tie.Need-next-here-requires Inv-loop μ-loop
 next-here-requires c κs = search needs

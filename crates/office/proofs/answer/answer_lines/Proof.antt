@@ -5,7 +5,7 @@ use native.Mathlib.Omega.{arith}
 use borrow.Author.Needs.{needs}
 use lib.ListN.{length}
 use lib.Seq.{length-take-le}
-use Rattle.clerk.specs.Running.{Passes}
+use Rattle.rules.specs.Rules.{Passes}
 use Rattle.office.proofs.answer.answer_lines.Statement.{statement}
 use Rattle.office.proofs.answer.answer_lines.Tie as tie
 
