@@ -1,13 +1,10 @@
 // The whole walk of a query.
 ghost use mathlib.Core.Path.{_≡_};
 ghost use mathlib.Core.Bool.{true};
-ghost use lib.ListN.{length};
-ghost use Rattle.words.specs.Word.{IsWord, onGrid};
+ghost use Rattle.words.specs.Word.{onGrid};
 ghost use Rattle.grid.specs.Site.{placeOf};
-ghost use Rattle.order.specs.Lists.{All};
-ghost use Rattle.figures.specs.Figures.{LENGTH};
 ghost use Rattle.table.specs.Words.{pointsOf};
-ghost use Rattle.rules.specs.Rules.{wellFormed};
+ghost use Rattle.rules.specs.Rules.{Passing};
 ghost use Rattle.filter.specs.Query.{found};
 ghost use Rattle.filter.specs.Rows.{rows, Room, Noted};
 use crate::seen::Seen;
@@ -29,7 +26,7 @@ pub fn find(
     ys: &mut [i32],
     squares: &mut [u64],
 ) -> Seen
-    requires { ⌜ (length (now table) ≡ LENGTH) × All IsWord (now table) × (wellFormed (now table) ≡ true) ⌝ }
+    requires { ⌜ Passing (now table) ⌝ }
     requires { ⌜ (onGrid x ≡ true) × (onGrid y ≡ true) ⌝ }
     requires { ⌜ Room (pointsOf (now table)) (rows (now numbers) (now xs) (now ys) (now squares)) ⌝ }
     ensures { λ r. ⌜

@@ -3,13 +3,12 @@ ghost use mathlib.Core.Path.{_≡_};
 ghost use mathlib.Core.Bool.{true};
 ghost use Prim.Native.Nat.{_<_, min};
 ghost use lib.ListN.{length};
-ghost use Rattle.words.specs.Word.{IsWord};
 ghost use Rattle.grid.specs.Place.{PlaceOnGrid};
 ghost use Rattle.order.specs.Lists.{count as countOf, All};
 ghost use Rattle.figures.specs.Figures.{SLOTS, LENGTH};
 ghost use Rattle.table.specs.Slots.{entriesAt};
 ghost use Rattle.table.specs.Stations.{isPoint};
-ghost use Rattle.rules.specs.Rules.{wellFormed};
+ghost use Rattle.rules.specs.Rules.{Passing};
 ghost use Rattle.filter.specs.Passable.{Passable};
 ghost use Rattle.vetting.specs.Test.{otherNearer, below as belowOf, Boxed, passes as passesOf};
 use grid::place::Place;
@@ -98,7 +97,7 @@ fn others_below(
 
 // Whether fewer than k others are nearer. The empty table has no root to start from.
 pub fn passes(table: &[i32], number: usize, p: Place, far: u64, k: usize) -> bool
-    requires { ⌜ (length (now table) ≡ LENGTH) × All IsWord (now table) × (wellFormed (now table) ≡ true) × PlaceOnGrid p ⌝ }
+    requires { ⌜ Passing (now table) × PlaceOnGrid p ⌝ }
     ensures { λ r. ⌜ r ≡ passesOf (now (table .entry)) number p far k ⌝ }
 {
     if points_of(table) == 0 {

@@ -42,13 +42,11 @@ use denote.Triple.Statement.{Contract, Triple}
 use denote.Triple.Table.{cited}
 use denote.Triple.Walked.{says, needs, Stays, gave-slice, stay-none-slice, stay-none, walkOf, goes-gave-slice, goes-none-slice, goes-none, ends-at}
 use denote.Exit.{yes}
-use Rattle.words.specs.Word.{IsWord, onGrid}
+use Rattle.words.specs.Word.{onGrid}
 use Rattle.grid.specs.Site.{Site, placeOf}
 use Rattle.grid.proofs.Site.{SiteOnGrid}
-use Rattle.order.specs.Lists.{All}
-use Rattle.figures.specs.Figures.{LENGTH}
 use Rattle.table.specs.Words.{pointsOf}
-use Rattle.rules.specs.Rules.{wellFormed}
+use Rattle.rules.specs.Rules.{Passing}
 use Rattle.filter.specs.declared.seen.Seen.{Seen}
 use Rattle.filter.specs.Query.{found, laidOver}
 use Rattle.filter.specs.Rows.{rows, Room as Rooms, Noted}
@@ -181,7 +179,7 @@ module _ {M : Type 1} (𝓤 : URA M) (H : Heap 𝓤) (A : Atoms 𝓤) (W : Given
         → ent 𝓤 (⋆ 𝓤 H A (‵ (flft (κs .0) (qs .0)) ∷ ‵ (flft (p₁ .0 ∷ []) fullShare) ∷ ‵ (flft (p₂ .0 ∷ []) fullShare) ∷ ‵ (flft (p₃ .0 ∷ []) fullShare) ∷ ‵ (flft (p₄ .0 ∷ []) fullShare) ∷ ‵ Tabled ∷ ‵ (MutRow i32 500 (named 1) b₁ p₁ ns) ∷ ‵ (MutRow i32 500 (named 2) b₂ p₂ xs) ∷ ‵ (MutRow i32 500 (named 3) b₃ p₃ zs) ∷ ‵ (MutRow u64 500 (named 4) b₄ p₄ ss) ∷ [])) (Find 𝓤 H A mem run .pre to-find)
     goes-find ask =
         qed W (‵ (flft (κs .0) (qs .0)) ∷ ‵ (flft (p₁ .0 ∷ []) fullShare) ∷ ‵ (flft (p₂ .0 ∷ []) fullShare) ∷ ‵ (flft (p₃ .0 ∷ []) fullShare) ∷ ‵ (flft (p₄ .0 ∷ []) fullShare) ∷ ‵ Tabled ∷ ‵ (MutRow i32 500 (named 1) b₁ p₁ ns) ∷ ‵ (MutRow i32 500 (named 2) b₂ p₂ xs) ∷ ‵ (MutRow i32 500 (named 3) b₃ p₃ zs) ∷ ‵ (MutRow u64 500 (named 4) b₄ p₄ ss) ∷ []) ∵
-        suffices ! _ (three-facts 𝓤 H A W _ {φ = (length ws ≡ LENGTH) × All IsWord ws × (wellFormed ws ≡ true)} {ψ = (onGrid zx ≡ true) × (onGrid zy ≡ true)} {χ = Rooms (pointsOf ws) (rows ns xs zs ss)} (pre .table .long, pre .table .words, pre .table .rules) (pre .x, pre .y) ask) $
+        suffices ! _ (three-facts 𝓤 H A W _ {φ = Passing ws} {ψ = (onGrid zx ≡ true) × (onGrid zy ≡ true)} {χ = Rooms (pointsOf ws) (rows ns xs zs ss)} (pre .table) (pre .x, pre .y) ask) $
         stack ! 5 $ frame ! $
         nothing ! $ move ! (5 ∷ 0 ∷ []) $ fjoin ! $ move ! (4 ∷ 0 ∷ []) $ fjoin ! $ move ! (3 ∷ 0 ∷ []) $ fjoin ! $ move ! (2 ∷ 0 ∷ []) $ fjoin ! $
         owned ! usize (Is usize) (uint-makes 𝓤 H A W w64) k _ (refl, gk) $ fjoin ! $ owned ! i32 (Is i32) (sint-makes 𝓤 H A W w32) zy _ gy $ fjoin ! $ owned ! i32 (Is i32) (sint-makes 𝓤 H A W w32) zx _ gx $ fjoin ! $ move ! (1 ∷ 0 ∷ []) $ fjoin ! $ done !

@@ -27,8 +27,8 @@ returns c =
     let ws = s .args .table .now in
     let z : pointsOf ws ≡ 0 = sym (c .before .points-of .ensures) ∙ c .if1 .taken in
     rw (c .before .before .none .ensures)
-    (empty-noted ws (s .pre .0 .0) (s .pre .0 .1) (s .pre .0 .2) _ (s .args .k) _
-    (no-points ws (s .pre .0 .0) (s .pre .0 .1) (s .pre .0 .2) z))
+    (empty-noted ws (s .pre .0 .long) (s .pre .0 .words) (s .pre .0 .rules) _ (s .args .k) _
+    (no-points ws (s .pre .0 .long) (s .pre .0 .words) (s .pre .0 .rules) z))
 
 steps-requires : tie.Need-steps-requires
 steps-requires c κs = search needs
@@ -44,8 +44,8 @@ level-at-requires c κs =
     let e = c .before .before .before in
     let s = e .before .before .before .before in
     let ws = s .args .table .now in
-    let full = some-points ws (s .pre .0 .0) (s .pre .0 .1) (s .pre .0 .2) (omega (arith, e .before .points-of .ensures, e .if1 .left)) in
-    (s .pre .0 .0, passable-slot (levelAt ws (c .root-of .result)) ws (c .root-of .result) (root-passable ws (s .pre .0 .0) (s .pre .0 .1) (s .pre .0 .2) full (c .root-of .result) _ (c .root-of .ensures) refl))
+    let full = some-points ws (s .pre .0 .long) (s .pre .0 .words) (s .pre .0 .rules) (omega (arith, e .before .points-of .ensures, e .if1 .left)) in
+    (s .pre .0 .long, passable-slot (levelAt ws (c .root-of .result)) ws (c .root-of .result) (root-passable ws (s .pre .0 .long) (s .pre .0 .words) (s .pre .0 .rules) full (c .root-of .result) _ (c .root-of .ensures) refl))
 
 walk-requires : tie.Need-walk-requires
 walk-requires c κs =
@@ -54,14 +54,14 @@ walk-requires c κs =
     let s = e .before .before .before .before in
     let a = s .args in
     let ws = a .table .now in
-    let full = some-points ws (s .pre .0 .0) (s .pre .0 .1) (s .pre .0 .2) (omega (arith, e .before .points-of .ensures, e .if1 .left)) in
+    let full = some-points ws (s .pre .0 .long) (s .pre .0 .words) (s .pre .0 .rules) (omega (arith, e .before .points-of .ensures, e .if1 .left)) in
     let r = rows (a .numbers .now) (a .xs .now) (a .ys .now) (a .squares .now) in
     let q : Site = record { x = a .x; y = a .y } in
     let grid : SiteOnGrid q = record { x = s .pre .1 .0 .0; y = s .pre .1 .0 .1 } in
     let p = place-ext (steps-passed (a .x) (word-fits (a .x) (grid-word (a .x) (grid .x))) (o .before .before .steps .ensures)) (steps-passed (a .y) (word-fits (a .y) (grid-word (a .y) (grid .y))) (o .before .steps2 .ensures)) in (
-      (s .pre .0 .0, root-passable ws (s .pre .0 .0) (s .pre .0 .1) (s .pre .0 .2) full _ _ (o .root-of .ensures) (c .before .before .before .before .level-at .ensures)),
+      (s .pre .0 .long, root-passable ws (s .pre .0 .long) (s .pre .0 .words) (s .pre .0 .rules) full _ _ (o .root-of .ensures) (c .before .before .before .before .level-at .ensures)),
       rw (e .before .before .none .ensures)
-          (root-ready ws (s .pre .0 .0) (s .pre .0 .1) (s .pre .0 .2) full _ _ (o .root-of .ensures) (c .before .before .before .before .level-at .ensures) q grid (a .k) _ p r (s .pre .1 .1)),
+          (root-ready ws (s .pre .0 .long) (s .pre .0 .words) (s .pre .0 .rules) full _ _ (o .root-of .ensures) (c .before .before .before .before .level-at .ensures) q grid (a .k) _ p r (s .pre .1 .1)),
     )
 
 same-length : tie.Need-same-length
@@ -84,12 +84,12 @@ returns-2 c =
     let s = e .before .before .before .before in
     let a = s .args in
     let ws = a .table .now in
-    let full = some-points ws (s .pre .0 .0) (s .pre .0 .1) (s .pre .0 .2) (omega (arith, e .before .points-of .ensures, e .if1 .left)) in
+    let full = some-points ws (s .pre .0 .long) (s .pre .0 .words) (s .pre .0 .rules) (omega (arith, e .before .points-of .ensures, e .if1 .left)) in
     let r = rows (a .numbers .now) (a .xs .now) (a .ys .now) (a .squares .now) in
     let q : Site = record { x = a .x; y = a .y } in
     let grid : SiteOnGrid q = record { x = s .pre .1 .0 .0; y = s .pre .1 .0 .1 } in
     let p = place-ext (steps-passed (a .x) (word-fits (a .x) (grid-word (a .x) (grid .x))) (o .before .before .steps .ensures)) (steps-passed (a .y) (word-fits (a .y) (grid-word (a .y) (grid .y))) (o .before .steps2 .ensures)) in
-    root-noted ws (s .pre .0 .0) (s .pre .0 .1) (s .pre .0 .2) full _ _ (o .root-of .ensures) (v .before .before .before .before .before .level-at .ensures) q grid (a .k) _ p r (rw (e .before .before .none .ensures) at (v .walk .ensures))
+    root-noted ws (s .pre .0 .long) (s .pre .0 .words) (s .pre .0 .rules) full _ _ (o .root-of .ensures) (v .before .before .before .before .before .level-at .ensures) q grid (a .k) _ p r (rw (e .before .before .none .ensures) at (v .walk .ensures))
 
 pub find-spec : {M : Type 1} → statement M
 find-spec =

@@ -30,9 +30,8 @@ place-of-requires c κs = search needs
 passes-requires : tie.Need-passes-requires
 passes-requires c κs =
     let s = c .before .before .before in
-    let t = s .pre .0 in
     let p = point (entryOf (s .args .c)) (s .pre .1) in
-    (t .long, t .words, t .rules, rw (c .place-of .ensures) (record { x = p .x .grid; y = p .y .grid }))
+    (s .pre .0, rw (c .place-of .ensures) (record { x = p .x .grid; y = p .y .grid }))
 
 returns-2 : tie.Need-returns-2
 returns-2 c =

@@ -21,7 +21,7 @@ returns c =
     let a = s .args in
     let ws = a .table .now in
     let z : pointsOf ws ≡ 0 = sym (o .points-of .ensures) ∙ c .if1 .taken in
-    passes-empty ws (a .number) (a .p) (a .far) (a .k) (no-points ws (s .pre .0) (s .pre .1) (s .pre .2) z)
+    passes-empty ws (a .number) (a .p) (a .far) (a .k) (no-points ws (s .pre .0 .long) (s .pre .0 .words) (s .pre .0 .rules) z)
 
 root-of-requires : tie.Need-root-of-requires
 root-of-requires c κs = search needs
@@ -31,9 +31,9 @@ level-at-requires c κs =
     let e = c .before in
     let s = e .before .before in
     let ws = s .args .table .now in
-    let some = some-points ws (s .pre .0) (s .pre .1) (s .pre .2) (omega (arith, e .before .points-of .ensures, e .if1 .left)) in
+    let some = some-points ws (s .pre .0 .long) (s .pre .0 .words) (s .pre .0 .rules) (omega (arith, e .before .points-of .ensures, e .if1 .left)) in
     let root = c .root-of .result in
-    (s .pre .0, passable-slot (levelAt ws root) ws root (root-passable ws (s .pre .0) (s .pre .1) (s .pre .2) some root _ (c .root-of .ensures) refl))
+    (s .pre .0 .long, passable-slot (levelAt ws root) ws root (root-passable ws (s .pre .0 .long) (s .pre .0 .words) (s .pre .0 .rules) some root _ (c .root-of .ensures) refl))
 
 others-below-requires : tie.Need-others-below-requires
 others-below-requires c κs =
@@ -41,9 +41,9 @@ others-below-requires c κs =
     let e = o .before in
     let s = e .before .before in
     let ws = s .args .table .now in
-    let some = some-points ws (s .pre .0) (s .pre .1) (s .pre .2) (omega (arith, e .before .points-of .ensures, e .if1 .left)) in (
-      (s .pre .0, s .pre .3),
-      (root-passable ws (s .pre .0) (s .pre .1) (s .pre .2) some _ _ (o .root-of .ensures) (c .level-at .ensures), root-boxed ws (s .pre .0) (s .pre .1) (s .pre .2) some _ _ (o .root-of .ensures) (c .level-at .ensures)),
+    let some = some-points ws (s .pre .0 .long) (s .pre .0 .words) (s .pre .0 .rules) (omega (arith, e .before .points-of .ensures, e .if1 .left)) in (
+      (s .pre .0 .long, s .pre .1),
+      (root-passable ws (s .pre .0 .long) (s .pre .0 .words) (s .pre .0 .rules) some _ _ (o .root-of .ensures) (c .level-at .ensures), root-boxed ws (s .pre .0 .long) (s .pre .0 .words) (s .pre .0 .rules) some _ _ (o .root-of .ensures) (c .level-at .ensures)),
     )
 
 returns-2 : tie.Need-returns-2
@@ -54,8 +54,8 @@ returns-2 c =
     let s = e .before .before in
     let a = s .args in
     let ws = a .table .now in
-    let some = some-points ws (s .pre .0) (s .pre .1) (s .pre .2) (omega (arith, e .before .points-of .ensures, e .if1 .left)) in
-    passes-root ws (a .number) (a .p) (a .far) (a .k) (s .pre .0) (s .pre .1) (s .pre .2) some _ _ (o .root-of .ensures) (v .level-at .ensures) _ (c .others-below .ensures)
+    let some = some-points ws (s .pre .0 .long) (s .pre .0 .words) (s .pre .0 .rules) (omega (arith, e .before .points-of .ensures, e .if1 .left)) in
+    passes-root ws (a .number) (a .p) (a .far) (a .k) (s .pre .0 .long) (s .pre .0 .words) (s .pre .0 .rules) some _ _ (o .root-of .ensures) (v .level-at .ensures) _ (c .others-below .ensures)
 
 pub passes-spec : {M : Type 1} → statement M
 passes-spec =
