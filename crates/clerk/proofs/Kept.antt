@@ -17,7 +17,7 @@ use Rattle.desk.specs.Demands.{enrol, withdraw}
 use Rattle.refusals.proofs.Given.{by-given}
 use Rattle.desk.proofs.Granted.{query-granted}
 use Rattle.desk.proofs.Kept.{call-kept}
-use Rattle.desk.proofs.Finds.{laid-length}
+use Rattle.filter.proofs.Rows.{laid-length}
 use Rattle.sheet.specs.Bytes.{Bytes}
 use Rattle.jobs.specs.declared.job.Job.{Job}
 use Rattle.jobs.specs.declared.job.Job.the-variants.{Enrol, Withdraw, Query, MissingK, Misshapen}

@@ -5,16 +5,14 @@ use mathlib.Core.Logic.{_⊎_, inl, inr, ⊎-elim}
 use mathlib.Core.Bool.{Bool, true, false, cond, not}
 use mathlib.Core.List.{List, [], _∷_}
 use lib.Dec.{eqb}
-use lib.IntN.{ℤ}
 use lib.ListN.{length}
 use native.Mathlib.Omega.{arith}
 use Rattle.words.specs.Word.{natOf}
-use Rattle.grid.specs.Site.{Site}
 use Rattle.order.specs.Order.{Perm, pskip, ptrans}
 use Rattle.order.proofs.Perm.{prefl}
 use Rattle.order.specs.Lists.{All}
 use Rattle.table.specs.declared.given.Given.{Given}
-use Rattle.table.specs.declared.given.Given.the-variants.{Done, FewAnswers}
+use Rattle.table.specs.declared.given.Given.the-variants.{Done}
 use Rattle.table.specs.Given.{Line, numberGiven, firstOf}
 use Rattle.audit.specs.Check.{checkLines, checkGives}
 use Rattle.table.specs.Words.{Words}
@@ -27,7 +25,7 @@ use Rattle.filter.proofs.Rising.{perm-filter}
 use Rattle.refusals.specs.Refusals.{enrolLines, enrolGives, withdrawLines, withdrawGives, queryLines, queryGives}
 use Rattle.refusals.specs.Cases.{ifDone, ifFewAnswers}
 use Rattle.desk.specs.Calls.{pointEntry, afterEnrol, afterWithdraw, afterQuery, zeroCounts, onlyN}
-use Rattle.desk.specs.Demands.{First, Exactly, Demand1, Granted, Demand2, Call, enrol, withdraw, look, tableAfter, pointsAfter, pointsAfterAll, Demand3, AnyCalls}
+use Rattle.desk.specs.Demands.{First, Exactly, Demand1, Demand2, Call, enrol, withdraw, look, tableAfter, pointsAfter, pointsAfterAll, Demand3, AnyCalls}
 use Rattle.refusals.proofs.Given.{if-refused, if-not-few, by-done}
 use Rattle.desk.proofs.Granted.{full-points}
 use Rattle.desk.proofs.Passing.{passing-points, passing-few, passing-nodes, passing-levels}

@@ -5,7 +5,7 @@ use mathlib.Core.Path.{_≡_, sym, ap, subst, _∙_}
 use mathlib.Core.Bool.{true}
 use mathlib.Core.List.{List, [], map}
 use lib.IntN.{ℤ}
-use lib.ListN.{length, drop, length-map, length-append, length-drop}
+use lib.ListN.{length, length-map}
 use Rattle.words.specs.Word.{IsWord, natOf}
 use Rattle.grid.specs.Site.{Site}
 use Rattle.grid.proofs.Site.{SiteOnGrid}
@@ -29,6 +29,7 @@ use Rattle.filter.specs.Walk.{Found}
 use Rattle.filter.specs.Query.{recordOf, found, recordsFound, answersFound, laidOver}
 use Rattle.filter.proofs.Answers.{answers-right, candidates-few, candidates-points, opened-few, found-empty, answers-empty, answer-empty}
 use Rattle.filter.proofs.Meaning.{count-most, few-all-answer, answering-in, here-answers}
+use Rattle.filter.proofs.Rows.{laid-length}
 use Rattle.refusals.specs.Refusals.{numbersOf, queryGives}
 use Rattle.refusals.specs.Cases.{ifDone, ifFewAnswers}
 use Rattle.desk.specs.Calls.{afterQuery}
@@ -125,10 +126,6 @@ module _ (ws : Words) (words : All IsWord ws) (q : Site) (k : ℤ) (room places 
       (answering-in (stations ws) q (natOf k) p m (here-answers (stations ws) q (natOf k) (query-granted ws q k room places done .0 .count .least) p e))
 
 -- ---- the two lists after a query
-
--- a list laid over one that is no shorter
-pub laid-length : {A : Type 0} (new old : List A) → length new ≤ length old → length (laidOver new old) ≡ length old
-laid-length new old h = omega (arith, length-append new (drop (length new) old), length-drop (length new) old)
 
 -- both are as long as before
 pub query-lengths : {ws : Words} → Passing ws → (q : Site) (k : ℤ) (cs : List Candidate) (out : List ℕ)

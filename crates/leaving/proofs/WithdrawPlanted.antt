@@ -3,22 +3,19 @@ use Prim.Native.Nat.{ℕ, zero, suc, _+_, _-_, _≤_, _<_}
 use native.Mathlib.Omega.{arith}
 use mathlib.Core.Path.{_≡_, refl, sym, ap, subst, _∙_}
 use mathlib.Core.Bool.{Bool, cond, _||_}
-use mathlib.Core.List.{List, [], _∷_, map}
+use mathlib.Core.List.{List, [], _∷_}
 use lib.Dec.{eqb, ltb}
 use lib.ListN.{length}
 use borrow.Author.Tests.{ltb-true, ltb-false, lt-ltb, le-ltb}
 use Rattle.order.specs.Lists.{some, firstPlace, All}
-use Rattle.order.proofs.Lists.{by-bool, all-mem}
+use Rattle.order.proofs.Lists.{by-bool}
 use Rattle.table.specs.declared.node.Entry.{Entry}
-use Rattle.figures.specs.Figures.{SLOTS}
 use Rattle.table.specs.Words.{Words}
 use Rattle.table.specs.declared.node.Node.{Node}
-use Rattle.table.specs.Page.{page, held, Shows}
+use Rattle.table.specs.Page.{held, Shows}
 use Rattle.table.specs.Slots.{pageAt, entriesAt}
-use Rattle.table.specs.Tree.{entryOfTree, entriesOfTree, leastOf}
+use Rattle.table.specs.Tree.{leastOf}
 use Rattle.table.proofs.Slots.{page-few}
-use Rattle.rules.proofs.Joined.{all-map}
-use Rattle.rules.proofs.Reading.{Good, good-child, top-inside, entry-reference, stored-page, stored-child}
 use Rattle.change.specs.Planted.{Planted}
 use Rattle.leaving.specs.Withdraw.{holds}
 use Rattle.change.proofs.Flat.{good-flat}

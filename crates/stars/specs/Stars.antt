@@ -1,10 +1,9 @@
 -- 01, "Places to try": the starred cases, gathered under a single statement.
 use Prim.Native.Nat.{ℕ, zero, suc, _+_, _*_}
 use mathlib.Core.Path.{_≡_}
-use mathlib.Core.Bool.{Bool, true, false}
+use mathlib.Core.Bool.{true, false}
 use mathlib.Core.List.{List, [], _∷_, _++_, map}
 use lib.IntN.{ℤ, pos, negsuc}
-use lib.ListN.{length, replicate}
 use Rattle.grid.specs.declared.place.Place.{Place}
 use Rattle.grid.specs.declared.rect.Rect.{Rect}
 use Rattle.words.specs.Word.{stepsOf}

@@ -3,7 +3,6 @@ use Prim.Native.Nat.{ℕ, _+_, _*_}
 use mathlib.Core.Bool.{Bool, cond, _&&_}
 use mathlib.Core.List.{List, [], map}
 use lib.Dec.{eqb}
-use lib.IntN.{ℤ}
 use Rattle.axis.specs.Axis.{stepOnGrid}
 use Rattle.words.specs.Word.{natOf, wordOf}
 use Rattle.grid.specs.Site.{Site}

@@ -1,5 +1,5 @@
 -- `export::ullagreth_check` hands on what the check gives, by its number. Assumes nothing.
-use mathlib.Core.Path.{_≡_, ap, _∙_}
+use mathlib.Core.Path.{ap, _∙_}
 use Rattle.table.specs.Given.{numberGiven}
 use borrow.Author.Needs.{needs}
 use Rattle.export.proofs.ullagreth_check.Statement.{statement}

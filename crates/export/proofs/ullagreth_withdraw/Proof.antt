@@ -1,6 +1,5 @@
 -- `export::ullagreth_withdraw` hands on what the withdrawal gives, by its number. Assumes nothing.
-use mathlib.Core.Path.{_≡_, ap, _∙_}
-use lib.IntN.{ℤ}
+use mathlib.Core.Path.{ap, _∙_}
 use Rattle.table.specs.Given.{numberGiven}
 use Rattle.refusals.specs.Refusals.{withdrawGives}
 use Rattle.desk.specs.Calls.{afterWithdraw}

@@ -1,7 +1,6 @@
 -- `tables::blank` is safe and ends: every place is tested, and the slice keeps its length. Assumes nothing.
 use mathlib.Core.Path.{_≡_}
 use Prim.Native.Nat.{_-_, _≤_}
-use native.Mathlib.Omega.{arith}
 use borrow.Author.Needs.{needs}
 use lib.ListN.{length}
 use Rattle.tables.proofs.blank.Statement.{statement}

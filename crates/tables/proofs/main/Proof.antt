@@ -1,5 +1,4 @@
 -- `tables::main` is safe and ends: each line starts behind the one before. Assumes nothing.
-use mathlib.Core.Path.{_≡_, sym}
 use Prim.Native.Nat.{_-_, _≤_}
 use native.Mathlib.Omega.{arith}
 use borrow.Author.Needs.{needs}

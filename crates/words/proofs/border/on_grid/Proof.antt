@@ -1,7 +1,6 @@
 -- `words::border::on_grid` meets its contract: the steps lie within a million of the false origin exactly if the word is on the grid.
 -- Assumes nothing.
-use mathlib.Core.Path.{_≡_, ap, _∙_}
-use mathlib.Core.Bool.{Bool}
+use mathlib.Core.Path.{ap, _∙_}
 use Prim.Native.Nat.{ℕ}
 use borrow.Author.Needs.{needs}
 use Rattle.axis.specs.Axis.{stepOnGrid}

@@ -2,7 +2,7 @@
 use Prim.Native.Nat.{_≤_}
 use mathlib.Core.Path.{_≡_, refl, _∙_, ap}
 use borrow.Author.Needs.{needs}
-use lib.IntN.{ℤ, natAbs, _+ℤ_}
+use lib.IntN.{natAbs}
 use Rattle.axis.specs.Axis.{leadOf}
 use Rattle.grid.specs.Nearer.{led, allNearer}
 use Rattle.axis.proofs.Machine.{lead-most, leads-fit, leads-back}
