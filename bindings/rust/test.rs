@@ -86,7 +86,7 @@ fn asked(t: &mut Tally, table: &Table, points: &[Point], w: &Wanted) {
 
     if counts.n > 0 {
         let (mut list, mut answers) = lists(MOST_POINTS, counts.n - 1);
-        t.same(table.query(x, y, w.k, &mut list, &mut answers), Err(Refusal::FewAnswers { n: counts.n }));
+        t.same(table.query(x, y, w.k, &mut list, &mut answers), Err(Refusal::ShortList { n: counts.n }));
         t.same(list, w.list(points));
         t.same(answers, vec![UNSAID; counts.n - 1]);
         let (mut list, mut answers, mut row) = (vec![UNTOUCHED; MOST_POINTS], vec![UNSAID; counts.n - 1], [9; 3]);
@@ -225,7 +225,7 @@ fn queries_refused(t: &mut Tally) {
         let (mut list, mut answers) = lists(9, places);
         table.query(-EDGE, EDGE, k, &mut list, &mut answers).map(|counts| counts.n)
     };
-    t.same(query(16, 8), Err(Refusal::FewAnswers { n: 9 }));
+    t.same(query(16, 8), Err(Refusal::ShortList { n: 9 }));
     t.same(query(16, 9), Ok(9));
     t.same(query(1, 0), Ok(0));
 }
@@ -270,7 +270,7 @@ fn numbers(t: &mut Tally) {
         Full,
         NotEnrolled,
         FewCandidates,
-        FewAnswers { n: 3 },
+        ShortList { n: 3 },
         Misshapen,
         SheetTooLong,
     ];

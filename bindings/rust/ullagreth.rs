@@ -43,7 +43,7 @@ pub enum Refusal {
     NotEnrolled,
     FewCandidates,
     /// The only refusal that has a count: so many answers there are.
-    FewAnswers { n: usize },
+    ShortList { n: usize },
     /// This one and the next are of the job sheet: no call here gives them.
     Misshapen,
     SheetTooLong,
@@ -62,7 +62,7 @@ impl Refusal {
             Refusal::Full => (7, "500 points enrolled"),
             Refusal::NotEnrolled => (8, "point not enrolled"),
             Refusal::FewCandidates => (9, "candidate list shorter than the points enrolled"),
-            Refusal::FewAnswers { .. } => (10, "answer list shorter than n"),
+            Refusal::ShortList { .. } => (10, "answer list shorter than n"),
             Refusal::Misshapen => (11, "misshapen line"),
             Refusal::SheetTooLong => (12, "sheet longer than 65,536 bytes"),
         }
@@ -94,7 +94,7 @@ fn granted(number: u8, n: usize) -> Result<(), Refusal> {
         7 => Refusal::Full,
         8 => Refusal::NotEnrolled,
         9 => Refusal::FewCandidates,
-        10 => Refusal::FewAnswers { n },
+        10 => Refusal::ShortList { n },
         _ => unreachable!("a call gave {number}, which its promise rules out"),
     })
 }
@@ -137,7 +137,7 @@ impl Table {
 
     /// Lists the points that have fewer than k others strictly nearer than (x, y): `list[..m]` are the candidates in the order found,
     /// `answers[..n]` the point numbers, rising; the rest of both stays. A refusal (1, 2, 4, 5, 9, 10) leaves both as they were, but for
-    /// `FewAnswers`, which leaves the list as a success would.
+    /// `ShortList`, which leaves the list as a success would.
     pub fn query(&self, x: i32, y: i32, k: i32, list: &mut [Candidate], answers: &mut [u32]) -> Result<Counts, Refusal> {
         let mut row = [0; 3];
         let number = lent::query(&self.0, x, y, k, list, answers, &mut row);

@@ -13,7 +13,7 @@ use Rattle.record.specs.declared.Candidate.{Candidate}
 use Rattle.record.specs.Blank.{none}
 use Rattle.refusals.specs.declared.answered.Answered.{Answered}
 use Rattle.refusals.specs.Refusals.{queryGives}
-use Rattle.refusals.specs.Cases.{ifDone, ifFewAnswers}
+use Rattle.refusals.specs.Cases.{ifDone, ifShortList}
 use Rattle.desk.specs.Calls.{Queried, afterQuery, zeroCounts, onlyN}
 use Rattle.desk.specs.Lent.{Answers}
 use Rattle.desk.specs.Alone.{blankList, AnswersAlone, AnyList}
@@ -26,7 +26,7 @@ any-list ws q k cs ds old e =
     let g : queryGives ws q k (length cs) (length old) ≡ queryGives ws q k (length ds) (length old) = ap (λ m. queryGives ws q k m (length old)) e in
     record {
       given = g;
-      counts = ap (λ h. ifDone h counts (ifFewAnswers h (onlyN counts) zeroCounts)) g;
+      counts = ap (λ h. ifDone h counts (ifShortList h (onlyN counts) zeroCounts)) g;
       answers = ap (λ h. ifDone h (laidOver (answersFound ws q (natOf k)) old) old) g;
     }
 

@@ -14,7 +14,7 @@ use Rattle.grid.specs.Site.{Site}
 use Rattle.order.specs.Lists.{one}
 use Rattle.order.proofs.Lists.{by-leb}
 use Rattle.table.specs.declared.given.Given.{Given}
-use Rattle.table.specs.declared.given.Given.the-variants.{Done, FewAnswers}
+use Rattle.table.specs.declared.given.Given.the-variants.{Done, ShortList}
 use Rattle.table.specs.Words.{Words}
 use Rattle.filter.specs.Query.{answersFound, laidOver}
 use Rattle.filter.proofs.Rows.{laid-length}
@@ -59,10 +59,10 @@ module _ (ws : Words) (q : Site) (k : ℤ) where
 
   module _ (before after : List Candidate) (old new : List ℕ) (reply : Reply) (r : Listed ws q (natOf k) before after old new reply)
       {g : Given} (e : g ≡ queryGives ws q k (length before) (answersTold ws q k)) (done : g ≡ Done) where
-    last : queryGives ws q k (length before) (length old) ≡ cond (ltb (length old) (reply .n)) FewAnswers Done
+    last : queryGives ws q k (length before) (length old) ≡ cond (ltb (length old) (reply .n)) ShortList Done
     last =
         query-late ws q k (length before) e done (length old)
-        ∙ ap (λ m. cond (ltb (length old) m) FewAnswers Done) (sym (r .n))
+        ∙ ap (λ m. cond (ltb (length old) m) ShortList Done) (sym (r .n))
 
     -- the answer list is as long as it was
     new-length : length new ≡ length old
@@ -75,7 +75,7 @@ module _ (ws : Words) (q : Site) (k : ℤ) where
     list-few : length new < reply .n → Answers ws q k before after old new (nAlone (reply .n))
     unfolding afterQuery
     list-few short =
-        let h : queryGives ws q k (length before) (length old) ≡ FewAnswers = last ∙ rw (lt-ltb (length old) (reply .n) (omega (arith, new-length))) in
+        let h : queryGives ws q k (length before) (length old) ≡ ShortList = last ∙ rw (lt-ltb (length old) (reply .n) (omega (arith, new-length))) in
         let kept : new ≡ old = r .answers ∙ rw (lt-leb (answersTold ws q k) (length old) (omega (arith, new-length, r .n))) in
         rw h (queried-ext refl (counts-ext (r .n) refl refl) (r .candidates) kept)
 

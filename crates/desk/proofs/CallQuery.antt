@@ -6,7 +6,7 @@ use lib.IntN.{ℤ}
 use lib.ListN.{length}
 use Rattle.grid.specs.Site.{Site}
 use Rattle.table.specs.declared.given.Given.{Given}
-use Rattle.table.specs.declared.given.Given.the-variants.{Done, FewAnswers}
+use Rattle.table.specs.declared.given.Given.the-variants.{Done, ShortList}
 use Rattle.table.specs.Words.{Words}
 use Rattle.filter.specs.Query.{Counts}
 use Rattle.record.specs.declared.Candidate.{Candidate}
@@ -25,7 +25,7 @@ pub counts-ext : {a b : Counts} → a .n ≡ b .n → a .m ≡ b .m → a .o ≡
 counts-ext n m o = λ i. record { n = n i; m = m i; o = o i }
 
 module _ (ws : Words) (q : Site) (k : ℤ) where
-  pub after-refused : (cs : List Candidate) (out : List ℕ) {g : Given} → g ≡ queryGives ws q k (length cs) (length out) → (g ≡ Done → ⊥) → (g ≡ FewAnswers → ⊥)
+  pub after-refused : (cs : List Candidate) (out : List ℕ) {g : Given} → g ≡ queryGives ws q k (length cs) (length out) → (g ≡ Done → ⊥) → (g ≡ ShortList → ⊥)
       → queried (record { given = g; n = 0; m = 0; o = 0 }) cs out ≡ afterQuery ws q k cs out
   unfolding afterQuery
   after-refused cs out {g} e d f =

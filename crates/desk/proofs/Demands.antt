@@ -23,7 +23,7 @@ use Rattle.leaving.specs.Withdraw.{withdrawn}
 use Rattle.filter.specs.Query.{Counts, countsOf, recordsFound, answersFound, laidOver}
 use Rattle.filter.proofs.Rising.{perm-filter}
 use Rattle.refusals.specs.Refusals.{enrolLines, enrolGives, withdrawLines, withdrawGives, queryLines, queryGives}
-use Rattle.refusals.specs.Cases.{ifDone, ifFewAnswers}
+use Rattle.refusals.specs.Cases.{ifDone, ifShortList}
 use Rattle.desk.specs.Calls.{pointEntry, afterEnrol, afterWithdraw, afterQuery, zeroCounts, onlyN}
 use Rattle.desk.specs.Demands.{First, Exactly, Demand1, Demand2, Call, enrol, withdraw, look, tableAfter, pointsAfter, pointsAfterAll, Demand3, AnyCalls}
 use Rattle.refusals.proofs.Given.{if-refused, if-not-few, by-done}
@@ -97,15 +97,15 @@ demand1 = record {
       let g = queryGives ws q k (length cs) (length out) in
       let counts = countsOf ws q (natOf k) in
       let records = laidOver (recordsFound ws q (natOf k)) cs in (
-        if-refused g no counts (ifFewAnswers g (onlyN counts) zeroCounts) ∙ if-not-few g more (onlyN counts) zeroCounts,
-        if-refused g no records (ifFewAnswers g records cs) ∙ if-not-few g more records cs,
+        if-refused g no counts (ifShortList g (onlyN counts) zeroCounts) ∙ if-not-few g more (onlyN counts) zeroCounts,
+        if-refused g no records (ifShortList g records cs) ∙ if-not-few g more records cs,
         if-refused g no (laidOver (answersFound ws q (natOf k)) out) out,
       );
   short = λ ws q k cs out ten.
       let counts = countsOf ws q (natOf k) in
       let records = laidOver (recordsFound ws q (natOf k)) cs in (
-        ap (λ g. ifDone g counts (ifFewAnswers g (onlyN counts) zeroCounts)) ten,
-        ap (λ g. ifDone g records (ifFewAnswers g records cs)) ten,
+        ap (λ g. ifDone g counts (ifShortList g (onlyN counts) zeroCounts)) ten,
+        ap (λ g. ifDone g records (ifShortList g records cs)) ten,
         ap (λ g. ifDone g (laidOver (answersFound ws q (natOf k)) out) out) ten,
       );
 }
@@ -117,13 +117,13 @@ unfolding afterQuery
 demand2 ws words q k cs out done =
     let counts = countsOf ws q (natOf k) in
     let records = laidOver (recordsFound ws q (natOf k)) cs in
-    let few : (g : Given) → Counts = λ g. ifFewAnswers g (onlyN counts) zeroCounts in
+    let few : (g : Given) → Counts = λ g. ifShortList g (onlyN counts) zeroCounts in
     let found-is = granted-answers ws words q k (length cs) (length out) done in
     let c = ap (λ g. ifDone g counts (few g)) done in
     record {
       answers = ap (λ g. ifDone g (laidOver (answersFound ws q (natOf k)) out) out) done ∙ ap (λ a. laidOver a out) found-is;
       n = ap (λ (x : Counts). x .n) c ∙ ap length found-is;
-      candidates = ap (λ g. ifDone g records (ifFewAnswers g records cs)) done;
+      candidates = ap (λ g. ifDone g records (ifShortList g records cs)) done;
       m = ap (λ (x : Counts). x .m) c;
       o = ap (λ (x : Counts). x .o) c;
     }

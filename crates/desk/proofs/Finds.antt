@@ -31,7 +31,7 @@ use Rattle.filter.proofs.Answers.{answers-right, candidates-few, candidates-poi
 use Rattle.filter.proofs.Meaning.{count-most, few-all-answer, answering-in, here-answers}
 use Rattle.filter.proofs.Rows.{laid-length}
 use Rattle.refusals.specs.Refusals.{numbersOf, queryGives}
-use Rattle.refusals.specs.Cases.{ifDone, ifFewAnswers}
+use Rattle.refusals.specs.Cases.{ifDone, ifShortList}
 use Rattle.desk.specs.Calls.{afterQuery}
 use Rattle.refusals.proofs.Given.{by-given}
 use Rattle.desk.proofs.Granted.{Within, query-granted, query-short, queryLines, passing-query}
@@ -143,15 +143,15 @@ query-lengths {ws} p q k cs out =
     by-given g
     (λ e.
     let h = query-granted ws q k room places e in (
-      ap (λ d. length (ifDone d records (ifFewAnswers d records cs))) e ∙ fits (h .0 .grid) (h .0 .candidates),
+      ap (λ d. length (ifDone d records (ifShortList d records cs))) e ∙ fits (h .0 .grid) (h .0 .candidates),
       ap (λ d. length (ifDone d answers out)) e ∙ laid-length (answersFound ws q (natOf k)) out (h .1),
     ))
     (λ e.
     let h = query-short ws q k room places e in (
-      ap (λ d. length (ifDone d records (ifFewAnswers d records cs))) e ∙ fits (h .0 .grid) (h .0 .candidates),
+      ap (λ d. length (ifDone d records (ifShortList d records cs))) e ∙ fits (h .0 .grid) (h .0 .candidates),
       ap (λ d. length (ifDone d answers out)) e,
     ))
     (λ r. (
-      ap length (r .done records (ifFewAnswers g records cs) ∙ r .few records cs),
+      ap length (r .done records (ifShortList g records cs) ∙ r .few records cs),
       ap length (r .done answers out),
     ))

@@ -23,7 +23,7 @@ use Rattle.table.specs.declared.given.Given.the-variants.{
   Full,
   NotEnrolled,
   FewCandidates,
-  FewAnswers,
+  ShortList,
 }
 use Rattle.figures.specs.Figures.{MOST, LENGTH, HIGHEST}
 use Rattle.table.specs.Words.{Words, pointsOf, between}
@@ -81,7 +81,7 @@ abbrev fewCandidates : Words → ℕ → Line
 fewCandidates ws room = line (ltb room (pointsOf ws)) FewCandidates
 
 abbrev fewAnswers : Words → Site → ℤ → ℕ → Line
-fewAnswers ws q k places = line (ltb places (length (answersFound ws q (natOf k)))) FewAnswers
+fewAnswers ws q k places = line (ltb places (length (answersFound ws q (natOf k)))) ShortList
 
 -- ---- what a grant means
 
@@ -162,12 +162,12 @@ full-points ws n p e =
     leb-true MOST (pointsOf ws) (last-holds (isFull ws) Full refl last)
 
 -- 10: all is in order but for the answer list, which is shorter than n
-pub query-short : (ws : Words) (q : Site) (k : ℤ) (room places : ℕ) → queryGives ws q k room places ≡ FewAnswers
+pub query-short : (ws : Words) (q : Site) (k : ℤ) (room places : ℕ) → queryGives ws q k room places ≡ ShortList
     → QueryReady ws q k room × (places < length (answersFound ws q (natOf k)))
 unfolding queryGives
 query-short ws q k room places e =
-    let h = passed-before FewAnswers (readyLines ws q k room) (fewAnswers ws q k places ∷ []) refl e in
-    let last = last-holds (fewAnswers ws q k places .holds) FewAnswers refl (h .1) in
+    let h = passed-before ShortList (readyLines ws q k room) (fewAnswers ws q k places ∷ []) refl e in
+    let last = last-holds (fewAnswers ws q k places .holds) ShortList refl (h .1) in
     (query-ready ws q k room (h .0), ltb-true places (length (answersFound ws q (natOf k))) last)
 
 -- ---- on a table that passes the check

@@ -14,7 +14,7 @@ use Rattle.record.specs.declared.Candidate.{Candidate}
 use Rattle.filter.specs.Query.{Counts, recordsFound, answersFound, countsOf, laidOver}
 use Rattle.table.specs.declared.given.Given.{Given}
 use Rattle.refusals.specs.Refusals.{enrolGives, withdrawGives, queryGives}
-use Rattle.refusals.specs.Cases.{ifDone, ifFewAnswers}
+use Rattle.refusals.specs.Cases.{ifDone, ifShortList}
 
 -- a point's entry in a leaf
 abbrev pub pointEntry : ℤ → Site → Entry
@@ -49,7 +49,7 @@ afterQuery ws q k candidates answers =
     let records = laidOver (recordsFound ws q (natOf k)) candidates in
     record {
       given = g;
-      counts = ifDone g counts (ifFewAnswers g (onlyN counts) zeroCounts);
-      candidates = ifDone g records (ifFewAnswers g records candidates);
+      counts = ifDone g counts (ifShortList g (onlyN counts) zeroCounts);
+      candidates = ifDone g records (ifShortList g records candidates);
       answers = ifDone g (laidOver (answersFound ws q (natOf k)) answers) answers;
     }

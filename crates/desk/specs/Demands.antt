@@ -12,7 +12,7 @@ use Rattle.grid.specs.Site.{Site}
 use Rattle.order.specs.Order.{Perm}
 use Rattle.order.specs.Lists.{count, filter, All}
 use Rattle.table.specs.declared.given.Given.{Given}
-use Rattle.table.specs.declared.given.Given.the-variants.{Done, Full, FewAnswers}
+use Rattle.table.specs.declared.given.Given.the-variants.{Done, Full, ShortList}
 use Rattle.table.specs.Given.{Line}
 use Rattle.figures.specs.Figures.{MOST, SLOTS}
 use Rattle.table.specs.Words.{Words}
@@ -53,10 +53,10 @@ pub record Demand1 : Type 0 where
   pub withdrawRefused : (ws : Words) (n : ℤ) → (withdrawGives ws n ≡ Done → ⊥) → afterWithdraw ws n ≡ ws
   -- a refused query: zero counts, and both lists as they were
   pub queryRefused : (ws : Words) (q : Site) (k : ℤ) (cs : List Candidate) (out : List ℕ)
-      → (afterQuery ws q k cs out .given ≡ Done → ⊥) → (afterQuery ws q k cs out .given ≡ FewAnswers → ⊥)
+      → (afterQuery ws q k cs out .given ≡ Done → ⊥) → (afterQuery ws q k cs out .given ≡ ShortList → ⊥)
       → (afterQuery ws q k cs out .counts ≡ zeroCounts) × (afterQuery ws q k cs out .candidates ≡ cs) × (afterQuery ws q k cs out .answers ≡ out)
   -- but for 10: it gives n, leaves the candidate list as a success would, and the answer list as it was
-  pub short : (ws : Words) (q : Site) (k : ℤ) (cs : List Candidate) (out : List ℕ) → afterQuery ws q k cs out .given ≡ FewAnswers
+  pub short : (ws : Words) (q : Site) (k : ℤ) (cs : List Candidate) (out : List ℕ) → afterQuery ws q k cs out .given ≡ ShortList
       → (afterQuery ws q k cs out .counts ≡ onlyN (countsOf ws q (natOf k)))
       × (afterQuery ws q k cs out .candidates ≡ laidOver (recordsFound ws q (natOf k)) cs)
       × (afterQuery ws q k cs out .answers ≡ out)

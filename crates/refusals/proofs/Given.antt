@@ -18,23 +18,23 @@ use Rattle.table.specs.declared.given.Given.the-variants.{
   Full,
   NotEnrolled,
   FewCandidates,
-  FewAnswers,
+  ShortList,
   Misshapen,
   SheetTooLong,
 }
 use Rattle.table.specs.Given.{Line, line, numberGiven, firstOf}
 use Rattle.rules.proofs.Tests.{and-left, and-right}
-use Rattle.refusals.specs.Cases.{ifDone, ifFewAnswers}
+use Rattle.refusals.specs.Cases.{ifDone, ifShortList}
 
 -- ---- by its cases
 
 -- a refusal other than 10
 pub record Plain (g : Given) : Type 1 where
   pub done : {A : Type 0} (a b : A) → ifDone g a b ≡ b
-  pub few : {A : Type 0} (a b : A) → ifFewAnswers g a b ≡ b
+  pub few : {A : Type 0} (a b : A) → ifShortList g a b ≡ b
 
 -- granted, refused with 10, or refused otherwise
-pub by-given : {Q : Type 0} (g : Given) → (g ≡ Done → Q) → (g ≡ FewAnswers → Q) → (Plain g → Q) → Q
+pub by-given : {Q : Type 0} (g : Given) → (g ≡ Done → Q) → (g ≡ ShortList → Q) → (Plain g → Q) → Q
 by-given Done d f p = d refl
 by-given WrongLength d f p = p (record { done = λ a b. refl; few = λ a b. refl })
 by-given NotWellFormed d f p = p (record { done = λ a b. refl; few = λ a b. refl })
@@ -45,7 +45,7 @@ by-given AlreadyEnrolled d f p = p (record { done = λ a b. refl; few = λ a b. 
 by-given Full d f p = p (record { done = λ a b. refl; few = λ a b. refl })
 by-given NotEnrolled d f p = p (record { done = λ a b. refl; few = λ a b. refl })
 by-given FewCandidates d f p = p (record { done = λ a b. refl; few = λ a b. refl })
-by-given FewAnswers d f p = f refl
+by-given ShortList d f p = f refl
 by-given Misshapen d f p = p (record { done = λ a b. refl; few = λ a b. refl })
 by-given SheetTooLong d f p = p (record { done = λ a b. refl; few = λ a b. refl })
 
@@ -53,8 +53,8 @@ module _ (g : Given) where
   pub if-refused : {A : Type 0} → (g ≡ Done → ⊥) → (a b : A) → ifDone g a b ≡ b
   if-refused n a b = by-given g (λ e. absurd (n e)) (λ e. ap (λ x. ifDone x a b) e) (λ p. p .done a b)
 
-  pub if-not-few : {A : Type 0} → (g ≡ FewAnswers → ⊥) → (a b : A) → ifFewAnswers g a b ≡ b
-  if-not-few n a b = by-given g (λ e. ap (λ x. ifFewAnswers x a b) e) (λ e. absurd (n e)) (λ p. p .few a b)
+  pub if-not-few : {A : Type 0} → (g ≡ ShortList → ⊥) → (a b : A) → ifShortList g a b ≡ b
+  if-not-few n a b = by-given g (λ e. ap (λ x. ifShortList x a b) e) (λ e. absurd (n e)) (λ p. p .few a b)
 
   -- a fact of two things that a granted call makes, and a refused one leaves
   pub by-done : {A B : Type 0} (P : A → B → Type 0) {a c : A} {b d : B} → (g ≡ Done → P a b) → P c d → P (ifDone g a c) (ifDone g b d)

@@ -13,7 +13,7 @@ use Rattle.grid.specs.Site.{Site}
 use Rattle.order.specs.Lists.{All}
 use Rattle.order.proofs.Lists.{by-bool}
 use Rattle.table.specs.declared.given.Given.{Given}
-use Rattle.table.specs.declared.given.Given.the-variants.{Done, WrongLength, NotWellFormed, OffGrid, NoSuchK, FewCandidates, FewAnswers}
+use Rattle.table.specs.declared.given.Given.the-variants.{Done, WrongLength, NotWellFormed, OffGrid, NoSuchK, FewCandidates, ShortList}
 use Rattle.figures.specs.Figures.{LENGTH}
 use Rattle.table.specs.Words.{Words, pointsOf}
 use Rattle.rules.specs.Rules.{wellFormed}
@@ -41,7 +41,7 @@ module _ (ws : Words) (long : length ws ≡ LENGTH) (rules : wellFormed ws ≡ t
 
   -- then the answer list decides
   pub query-last : offGrid q ≡ false → noSuchK k ≡ false → ltb room (pointsOf ws) ≡ false
-      → queryGives ws q k room places ≡ cond (ltb places (length (answersFound ws q (natOf k)))) FewAnswers Done
+      → queryGives ws q k room places ≡ cond (ltb places (length (answersFound ws q (natOf k)))) ShortList Done
   unfolding queryGives
   query-last a b d = rw (eq-eqb (length ws) LENGTH long, rules, a, b, d)
 
@@ -57,10 +57,10 @@ before10 ws q k room =
     ∷ []
 
 -- what is refused before the last line is refused whatever that says
-early : (ls : List Line) (b : Bool) {g : Given} → g ≡ firstOf (ls ++ line false FewAnswers ∷ []) → (g ≡ Done → ⊥) → g ≡ firstOf (ls ++ line b FewAnswers ∷ [])
+early : (ls : List Line) (b : Bool) {g : Given} → g ≡ firstOf (ls ++ line false ShortList ∷ []) → (g ≡ Done → ⊥) → g ≡ firstOf (ls ++ line b ShortList ∷ [])
 early [] b e d = absurd (d e)
 early (l ∷ ls) b {g} e d =
-    by-bool (λ t. g ≡ cond t (l .gives) (firstOf (ls ++ line false FewAnswers ∷ [])) → g ≡ cond t (l .gives) (firstOf (ls ++ line b FewAnswers ∷ [])))
+    by-bool (λ t. g ≡ cond t (l .gives) (firstOf (ls ++ line false ShortList ∷ [])) → g ≡ cond t (l .gives) (firstOf (ls ++ line b ShortList ∷ [])))
     (l .holds) (λ t h. h) (λ t h. early ls b h d) e
 
 -- and what passes all before it, it decides
@@ -74,26 +74,26 @@ answersTold ws q k = length (answersFound ws q (natOf k))
 
 module _ (ws : Words) (q : Site) (k : ℤ) (room : ℕ) where
   -- with room for all answers the last line is passed
-  enough : queryGives ws q k room (answersTold ws q k) ≡ firstOf (before10 ws q k room ++ line false FewAnswers ∷ [])
+  enough : queryGives ws q k room (answersTold ws q k) ≡ firstOf (before10 ws q k room ++ line false ShortList ∷ [])
   unfolding queryGives
-  enough = ap (λ b. firstOf (before10 ws q k room ++ line b FewAnswers ∷ [])) (le-ltb (answersTold ws q k) (answersTold ws q k) (omega arith))
+  enough = ap (λ b. firstOf (before10 ws q k room ++ line b ShortList ∷ [])) (le-ltb (answersTold ws q k) (answersTold ws q k) (omega arith))
 
   module _ {g : Given} (e : g ≡ queryGives ws q k room (answersTold ws q k)) where
     pub query-early : (g ≡ Done → ⊥) → (places : ℕ) → g ≡ queryGives ws q k room places
     unfolding queryGives
     query-early d places = early (before10 ws q k room) (ltb places (answersTold ws q k)) (e ∙ enough) d
 
-    pub not-few : g ≡ FewAnswers → ⊥
+    pub not-few : g ≡ ShortList → ⊥
     not-few f =
-        let h = passed-before FewAnswers (before10 ws q k room) (line false FewAnswers ∷ []) refl (sym enough ∙ sym e ∙ f) .1 in
+        let h = passed-before ShortList (before10 ws q k room) (line false ShortList ∷ []) refl (sym enough ∙ sym e ∙ f) .1 in
         let z : _≡_ {A = ℕ} 0 10 = ap numberGiven h in
         omega arith
 
-    pub query-late : g ≡ Done → (places : ℕ) → queryGives ws q k room places ≡ cond (ltb places (answersTold ws q k)) FewAnswers Done
+    pub query-late : g ≡ Done → (places : ℕ) → queryGives ws q k room places ≡ cond (ltb places (answersTold ws q k)) ShortList Done
     unfolding queryGives
     query-late d places =
-        all-before (before10 ws q k room) (line (ltb places (answersTold ws q k)) FewAnswers ∷ [])
-        (passed-before Done (before10 ws q k room) (line false FewAnswers ∷ []) refl (sym enough ∙ sym e ∙ d) .0)
+        all-before (before10 ws q k room) (line (ltb places (answersTold ws q k)) ShortList ∷ [])
+        (passed-before Done (before10 ws q k room) (line false ShortList ∷ []) refl (sym enough ∙ sym e ∙ d) .0)
 
   -- what the check refuses, the query refuses
   pub query-first : {g : Given} → g ≡ checkGives ws → (g ≡ Done → ⊥) → (places : ℕ) → g ≡ queryGives ws q k room places

@@ -12,7 +12,7 @@ use Rattle.table.specs.declared.given.Given.the-variants.{
   Full,
   NotEnrolled,
   FewCandidates,
-  FewAnswers,
+  ShortList,
   Misshapen,
   SheetTooLong,
 }
@@ -29,25 +29,25 @@ ifDone AlreadyEnrolled a b = b
 ifDone Full a b = b
 ifDone NotEnrolled a b = b
 ifDone FewCandidates a b = b
-ifDone FewAnswers a b = b
+ifDone ShortList a b = b
 ifDone Misshapen a b = b
 ifDone SheetTooLong a b = b
 
 -- one thing if the query is refused with 10, another otherwise
-abbrev pub ifFewAnswers : {A : Type 0} → Given → A → A → A
-ifFewAnswers FewAnswers a b = a
-ifFewAnswers Done a b = b
-ifFewAnswers WrongLength a b = b
-ifFewAnswers NotWellFormed a b = b
-ifFewAnswers NoSuchNumber a b = b
-ifFewAnswers OffGrid a b = b
-ifFewAnswers NoSuchK a b = b
-ifFewAnswers AlreadyEnrolled a b = b
-ifFewAnswers Full a b = b
-ifFewAnswers NotEnrolled a b = b
-ifFewAnswers FewCandidates a b = b
-ifFewAnswers Misshapen a b = b
-ifFewAnswers SheetTooLong a b = b
+abbrev pub ifShortList : {A : Type 0} → Given → A → A → A
+ifShortList ShortList a b = a
+ifShortList Done a b = b
+ifShortList WrongLength a b = b
+ifShortList NotWellFormed a b = b
+ifShortList NoSuchNumber a b = b
+ifShortList OffGrid a b = b
+ifShortList NoSuchK a b = b
+ifShortList AlreadyEnrolled a b = b
+ifShortList Full a b = b
+ifShortList NotEnrolled a b = b
+ifShortList FewCandidates a b = b
+ifShortList Misshapen a b = b
+ifShortList SheetTooLong a b = b
 
 -- the answer is a refusal
 abbrev pub refuses : Given → Bool

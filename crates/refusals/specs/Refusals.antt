@@ -25,7 +25,7 @@ use Rattle.table.specs.declared.given.Given.the-variants.{
   Full,
   NotEnrolled,
   FewCandidates,
-  FewAnswers,
+  ShortList,
 }
 
 -- ---- the lines
@@ -93,7 +93,7 @@ queryLines ws q k candidates answers =
     ∷ line (offGrid q) OffGrid
     ∷ line (noSuchK k) NoSuchK
     ∷ line (ltb candidates (pointsOf ws)) FewCandidates
-    ∷ line (ltb answers (length (answersFound ws q (natOf k)))) FewAnswers
+    ∷ line (ltb answers (length (answersFound ws q (natOf k)))) ShortList
     ∷ []
 
 unfoldable pub queryGives : Words → Site → ℤ → ℕ → ℕ → Given

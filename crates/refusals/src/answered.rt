@@ -41,7 +41,7 @@ pub fn handed_back(reply: Reply, places: usize) -> Answered
 {
     if places < reply.n {
         return Answered {
-            given: Given::FewAnswers,
+            given: Given::ShortList,
             n: reply.n,
             m: 0,
             o: 0,

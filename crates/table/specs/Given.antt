@@ -14,7 +14,7 @@ use Rattle.table.specs.declared.given.Given.the-variants.{
   Full,
   NotEnrolled,
   FewCandidates,
-  FewAnswers,
+  ShortList,
   Misshapen,
   SheetTooLong,
 }
@@ -30,7 +30,7 @@ numberGiven AlreadyEnrolled = 6
 numberGiven Full = 7
 numberGiven NotEnrolled = 8
 numberGiven FewCandidates = 9
-numberGiven FewAnswers = 10
+numberGiven ShortList = 10
 numberGiven Misshapen = 11
 numberGiven SheetTooLong = 12
 

@@ -14,7 +14,7 @@ pub enum Given {
     Full,
     NotEnrolled,
     FewCandidates,
-    FewAnswers,
+    ShortList,
     Misshapen,
     SheetTooLong,
 }
@@ -34,7 +34,7 @@ pub fn number_given(g: Given) -> u8
         Given::Full => 7,
         Given::NotEnrolled => 8,
         Given::FewCandidates => 9,
-        Given::FewAnswers => 10,
+        Given::ShortList => 10,
         Given::Misshapen => 11,
         Given::SheetTooLong => 12,
     }

@@ -3,7 +3,7 @@ use native.Mathlib.Omega.{arith}
 use mathlib.Core.Path.{sym, ap, _∙_}
 use mathlib.Core.Bool.{cond}
 use borrow.Author.Tests.{lt-ltb, le-ltb}
-use Rattle.table.specs.declared.given.Given.the-variants.{Done, FewAnswers}
+use Rattle.table.specs.declared.given.Given.the-variants.{Done, ShortList}
 use Rattle.table.specs.Words.{pointsOf}
 use Rattle.refusals.specs.Refusals.{site, offGrid, noSuchK}
 use Rattle.refusals.proofs.CallTests.{one-passed, two-passed}
@@ -61,7 +61,7 @@ returns-4 c =
     let t2 = sym (one-passed noSuchK (a .k) (s .fits .k) (c .before .before .before .no-such-k .ensures)) ∙ c .before .before .if2 .left in
     let t3 = le-ltb (a .room) (pointsOf ws) (omega (arith, c .before .points-of .ensures)) in
     let n = answersTold ws q (a .k) in
-    sym (query-last ws (s .pre .0) (s .pre .1) q (a .k) (a .room) n t1 t2 t3 ∙ ap (λ b. cond b FewAnswers Done) (le-ltb n n (omega arith)))
+    sym (query-last ws (s .pre .0) (s .pre .1) q (a .k) (a .room) n t1 t2 t3 ∙ ap (λ b. cond b ShortList Done) (le-ltb n n (omega arith)))
 
 pub query-given-spec : {M : Type 1} → statement M
 query-given-spec =
