@@ -11,12 +11,12 @@ use Rattle.table.specs.declared.given.Given.the-variants as given
 use Rattle.table.specs.Given.{numberGiven}
 use Rattle.refusals.specs.Refusals.{site, enrolGives, withdrawGives}
 use Rattle.refusals.specs.Cases.{ifDone}
-use Rattle.desk.specs.Calls.{afterEnrol, afterWithdraw, Queried, afterQuery}
+use Rattle.desk.specs.Calls.{afterEnrol, afterWithdraw, Queried, afterQuery, Listed, afterCard}
 use Rattle.desk.specs.Alone.{blankList}
 use Rattle.table.specs.Empty.{emptyTable}
 use Rattle.sheet.specs.Bytes.{Bytes, linesOf}
 use Rattle.jobs.specs.declared.job.Job.{Job}
-use Rattle.jobs.specs.declared.job.Job.the-variants.{Enrol, Withdraw, Query, MissingK, Misshapen}
+use Rattle.jobs.specs.declared.job.Job.the-variants.{Enrol, Withdraw, Query, Card, MissingK, Misshapen}
 use Rattle.jobs.specs.Job.{jobOf}
 use Rattle.slip.specs.Output.{letterOf, outputLine}
 
@@ -25,7 +25,7 @@ pub record State : Type 0 where
   pub words : Words
   pub answers : List ℕ
 
--- after a job: the state, what is given back, and the further numbers of a granted query
+-- after a job: the state, what is given back, and the further numbers of a granted query or card
 pub record Ran : Type 0 where
   pub state : State
   pub given : Given
@@ -47,11 +47,21 @@ queried st r =
       more = ifDone (r .given) (granted r) [];
     }
 
+-- how many names, then the numbers in card order
+abbrev pub carded : State → Listed → Ran
+carded st r =
+    record {
+      state = record { words = st .words; answers = r .list };
+      given = r .given;
+      more = ifDone (r .given) (r .names ∷ take (r .names) (r .list)) [];
+    }
+
 abbrev pub ranJob : State → Job → Ran
 ranJob st (Enrol n a b) = record { state = withWords st (afterEnrol (st .words) n (site a b)); given = enrolGives (st .words) n (site a b); more = [] }
 ranJob st (Withdraw n) = record { state = withWords st (afterWithdraw (st .words) n); given = withdrawGives (st .words) n; more = [] }
 ranJob st (Query a b k) = queried st (afterQuery (st .words) (site a b) k blankList (st .answers))
-ranJob st MissingK = record { state = st; given = given.NoSuchK; more = [] }
+ranJob st (Card n k) = carded st (afterCard (st .words) n k (st .answers))
+ranJob st (MissingK letter) = record { state = st; given = given.NoSuchK; more = [] }
 ranJob st Misshapen = record { state = st; given = given.Misshapen; more = [] }
 
 unfoldable pub ranLine : State → Bytes → Ran

@@ -5,11 +5,13 @@ ghost use lib.ListN.{length};
 ghost use Rattle.rules.specs.Rules.{Passes};
 ghost use Rattle.clerk.specs.Running.{lent, longestLine, RanJob, RanOne};
 use desk::answers::answers_passing;
+use desk::card::card_passing;
 use desk::enrol::enrol_passing;
 use desk::withdraw::withdraw_passing;
 use jobs::job::Job;
 use jobs::job::job_of;
 use slip::put_answers;
+use slip::put_names;
 use slip::put_line;
 use table::given::Given;
 use table::given::number_given;
@@ -41,6 +43,32 @@ fn run_query(
     put_answers(out, at, number, r.n, r.m, r.o, answers)
 }
 
+// A card: how many names, and the names, follow if it is granted.
+fn run_card(
+    n: i32,
+    k: i32,
+    number: u64,
+    table: &[i32],
+    answers: &mut [u32],
+    out: &mut [u8],
+    at: usize,
+) -> usize
+    requires { ⌜ Passes (now table) × (at + longestLine (length (now answers)) ≤ length (now out)) ⌝ }
+    ensures { λ r.
+        ⌜
+        RanJob number (Job.Card n k)
+        (lent (now (table .entry)) (now (answers .entry))) (lent (now (table .entry)) (now (answers .exit)))
+        (now (out .entry)) at (now (out .exit)) r
+        ⌝ }
+{
+    let r = card_passing(table, n, k, answers);
+    let given = r.given;
+    let Given::Done = given else {
+        return put_line(out, at, number, b'K', number_given(given));
+    };
+    put_names(out, at, number, r.names, answers)
+}
+
 // Line `number` of the sheet. It gives back the place behind the bytes of its output line.
 pub fn run_line(
     line: &[u8],
@@ -69,7 +97,8 @@ pub fn run_line(
             put_line(out, at, number, b'W', number_given(given))
         }
         Job::Query(x, y, k) => run_query(x, y, k, number, table, answers, out, at),
-        Job::MissingK => put_line(out, at, number, b'Q', number_given(Given::NoSuchK)),
+        Job::Card(n, k) => run_card(n, k, number, table, answers, out, at),
+        Job::MissingK(letter) => put_line(out, at, number, letter, number_given(Given::NoSuchK)),
         Job::Misshapen => put_line(out, at, number, b'?', number_given(Given::Misshapen)),
     }
 }

@@ -1,4 +1,4 @@
--- What each call gives back and leaves behind. A refusal changes nothing, but for 10 of the query.
+-- What each call gives back and leaves behind. A refusal changes nothing and has zero counts, but for 10: of the query, and of the card.
 use Prim.Native.Nat.{ℕ}
 use mathlib.Core.List.{List}
 use lib.IntN.{ℤ}
@@ -8,12 +8,14 @@ use Rattle.grid.specs.Site.{Site, placeOf}
 use Rattle.grid.specs.Place.{spotOf}
 use Rattle.table.specs.declared.node.Entry.{Entry}
 use Rattle.table.specs.Words.{Words}
+use Rattle.table.specs.Stations.{stations}
 use Rattle.joining.specs.Enrol.{enrolled}
 use Rattle.leaving.specs.Withdraw.{withdrawn}
 use Rattle.record.specs.declared.Candidate.{Candidate}
+use Rattle.card.specs.Card.{namesFor}
 use Rattle.filter.specs.Query.{Counts, recordsFound, answersFound, countsOf, laidOver}
 use Rattle.table.specs.declared.given.Given.{Given}
-use Rattle.refusals.specs.Refusals.{enrolGives, withdrawGives, queryGives}
+use Rattle.refusals.specs.Refusals.{enrolGives, withdrawGives, queryGives, cardGives}
 use Rattle.refusals.specs.Cases.{ifDone, ifShortList}
 
 -- a point's entry in a leaf
@@ -52,4 +54,21 @@ afterQuery ws q k candidates answers =
       counts = ifDone g counts (ifShortList g (onlyN counts) zeroCounts);
       candidates = ifDone g records (ifShortList g records candidates);
       answers = ifDone g (laidOver (answersFound ws q (natOf k)) answers) answers;
+    }
+
+-- what a card gives back: how many names it has; and the list after it
+pub record Listed : Type 0 where
+  pub given : Given
+  pub names : ℕ
+  pub list : List ℕ
+
+-- refusal 10 gives the card's length, and leaves the list
+unfoldable pub afterCard : Words → ℤ → ℤ → List ℕ → Listed
+afterCard ws n k list =
+    let g = cardGives ws n k (length list) in
+    let card = namesFor (stations ws) (natOf n) (natOf k) in
+    record {
+      given = g;
+      names = ifDone g (length card) (ifShortList g (length card) 0);
+      list = ifDone g (laidOver card list) list;
     }

@@ -1,5 +1,6 @@
 -- 01: "The first letter decides: E number x y; W number; Q x y k. Any other line is 11, an empty one included,
 -- except that a Q with sound x and y and either no further field or just one, empty, is 5, before any other check."
+-- 02 §1: K number k; 11, then 5 for a k field empty or absent.
 use Prim.Native.Nat.{ℕ}
 use mathlib.Core.Bool.{cond}
 use mathlib.Core.List.{List, [], _∷_}
@@ -9,7 +10,7 @@ use Rattle.sheet.specs.Bytes.{Bytes, fieldsOf}
 use Rattle.jobs.specs.declared.number.Read.{Read}
 use Rattle.jobs.specs.declared.number.Read.the-variants.{Number, NoNumber}
 use Rattle.jobs.specs.declared.job.Job.{Job}
-use Rattle.jobs.specs.declared.job.Job.the-variants.{Enrol, Withdraw, Query, MissingK, Misshapen}
+use Rattle.jobs.specs.declared.job.Job.the-variants.{Enrol, Withdraw, Query, Card, MissingK, Misshapen}
 use Rattle.jobs.specs.Number.{readNumber}
 
 -- go on with the number in a field; misshapen if there is none
@@ -30,18 +31,6 @@ withdrawJob [] = Misshapen
 withdrawJob (n ∷ []) = withNumber (readNumber n) (λ number. Withdraw number)
 withdrawJob (n ∷ m ∷ more) = Misshapen
 
--- the field after x and y: empty is a missing k
-abbrev pub kJob : ℤ → ℤ → Bytes → Job
-kJob a b [] = MissingK
-kJob a b (c ∷ cs) = withNumber (readNumber (c ∷ cs)) (λ k. Query a b k)
-
-abbrev pub queryJob : List Bytes → Job
-queryJob [] = Misshapen
-queryJob (x ∷ []) = Misshapen
-queryJob (x ∷ y ∷ []) = withNumber (readNumber x) (λ a. withNumber (readNumber y) (λ b. MissingK))
-queryJob (x ∷ y ∷ k ∷ []) = withNumber (readNumber x) (λ a. withNumber (readNumber y) (λ b. kJob a b k))
-queryJob (x ∷ y ∷ k ∷ z ∷ more) = Misshapen
-
 abbrev pub ENROL : ℕ
 ENROL = 69
 
@@ -51,11 +40,33 @@ WITHDRAW = 87
 abbrev pub QUERY : ℕ
 QUERY = 81
 
+abbrev pub CARD : ℕ
+CARD = 75
+
+-- the last field of a line with this letter is k: empty is a missing k
+abbrev pub withK : ℕ → Bytes → (ℤ → Job) → Job
+withK letter [] next = MissingK letter
+withK letter (c ∷ cs) next = withNumber (readNumber (c ∷ cs)) next
+
+abbrev pub queryJob : List Bytes → Job
+queryJob [] = Misshapen
+queryJob (x ∷ []) = Misshapen
+queryJob (x ∷ y ∷ []) = withNumber (readNumber x) (λ a. withNumber (readNumber y) (λ b. MissingK QUERY))
+queryJob (x ∷ y ∷ k ∷ []) = withNumber (readNumber x) (λ a. withNumber (readNumber y) (λ b. withK QUERY k (λ c. Query a b c)))
+queryJob (x ∷ y ∷ k ∷ z ∷ more) = Misshapen
+
+abbrev pub cardJob : List Bytes → Job
+cardJob [] = Misshapen
+cardJob (n ∷ []) = withNumber (readNumber n) (λ number. MissingK CARD)
+cardJob (n ∷ k ∷ []) = withNumber (readNumber n) (λ number. withK CARD k (λ c. Card number c))
+cardJob (n ∷ k ∷ z ∷ more) = Misshapen
+
 abbrev pub byLetter : ℕ → List Bytes → Job
 byLetter letter more =
     cond (eqb letter ENROL) (enrolJob more)
     (cond (eqb letter WITHDRAW) (withdrawJob more)
-    (cond (eqb letter QUERY) (queryJob more) Misshapen))
+    (cond (eqb letter QUERY) (queryJob more)
+    (cond (eqb letter CARD) (cardJob more) Misshapen)))
 
 -- the first field is exactly one letter
 abbrev pub byFields : List Bytes → Job

@@ -4,7 +4,7 @@ ghost use mathlib.Core.List.{[]};
 ghost use lib.ListN.{drop, getD};
 ghost use Rattle.sheet.specs.Bytes.{fieldsOf};
 ghost use Rattle.jobs.specs.Number.{readNumber};
-ghost use Rattle.jobs.specs.Job.{enrolJob, withdrawJob, queryJob, jobOf};
+ghost use Rattle.jobs.specs.Job.{enrolJob, withdrawJob, queryJob, cardJob, jobOf};
 use crate::number::Read;
 use crate::number::read_number;
 use sheet::fields::field;
@@ -18,8 +18,10 @@ pub enum Job {
     Withdraw(i32),
     // x, y, k.
     Query(i32, i32, i32),
-    // A query with sound x and y, and no k.
-    MissingK,
+    // Number, k.
+    Card(i32, i32),
+    // The letter of a line that lacks its k, where all before it is sound.
+    MissingK(u8),
     Misshapen,
 }
 
@@ -81,12 +83,36 @@ fn query_job(line: &[u8]) -> Job
     };
     // Past the last field there are only empty ones, so this is empty too if the field is not there.
     if field(line, 3).len() == 0 {
-        return Job::MissingK;
+        return Job::MissingK(b'Q');
     }
     let Read::Number(k) = number_in(line, 3) else {
         return Job::Misshapen;
     };
     Job::Query(x, y, k)
+}
+
+// A line that starts with K. Its k may be missing only where the number is sound, so that is read first.
+fn card_job(line: &[u8]) -> Job
+    ensures { λ r. ⌜ r ≡ cardJob (drop 1 (fieldsOf (now (line .entry)))) ⌝ }
+{
+    let n = field_count(line);
+    if n < 2 {
+        return Job::Misshapen;
+    }
+    if n > 3 {
+        return Job::Misshapen;
+    }
+    let Read::Number(number) = number_in(line, 1) else {
+        return Job::Misshapen;
+    };
+    // Past the last field there are only empty ones, so this is empty too if the field is not there.
+    if field(line, 2).len() == 0 {
+        return Job::MissingK(b'K');
+    }
+    let Read::Number(k) = number_in(line, 2) else {
+        return Job::Misshapen;
+    };
+    Job::Card(number, k)
 }
 
 // What a line asks for. The first field is the letter alone, so an empty line is misshapen.
@@ -102,6 +128,7 @@ pub fn job_of(line: &[u8]) -> Job
         b'E' => enrol_job(line),
         b'W' => withdraw_job(line),
         b'Q' => query_job(line),
+        b'K' => card_job(line),
         _ => Job::Misshapen,
     }
 }

@@ -1,5 +1,5 @@
 -- What is said of lists everywhere: how many pass a test, which pass it, where the first does, lists joined, all of a list, no element twice.
-use Prim.Native.Nat.{ℕ, _+_}
+use Prim.Native.Nat.{ℕ, _+_, _≤_}
 use mathlib.Core.Path.{_≡_}
 use mathlib.Core.Bool.{Bool, true, false, cond, _&&_, _||_}
 use mathlib.Core.List.{List, [], _∷_, _++_, List·Memᴰ}
@@ -57,6 +57,15 @@ All P (x ∷ xs) = P x × All P xs
 abbrev pub NoDup : {A : Type 0} → List A → Type 0
 NoDup [] = Unit
 NoDup (x ∷ xs) = (Mem x xs → ⊥) × NoDup xs
+
+-- each element stands so to every later one
+abbrev pub Pairwise : {A : Type 0} → (A → A → Type 0) → List A → Type 0
+Pairwise R [] = Unit
+Pairwise R (x ∷ xs) = All (R x) xs × Pairwise R xs
+
+-- numbers that rise
+abbrev pub Rises : List ℕ → Type 0
+Rises ns = Pairwise _≤_ ns
 
 -- every test counts the same in both
 abbrev pub Same : {A : Type 0} → List A → List A → Type 0

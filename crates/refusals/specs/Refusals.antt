@@ -1,4 +1,4 @@
--- 01, "Numbers given back": when each line holds, and the order in which each call checks them. Lines 1 and 2, of the table itself, and the check's order stand with the check.
+-- 01, "Numbers given back", and 02: when each line holds, and the order in which each call checks them. Lines 1 and 2, of the table itself, and the check's order stand with the check.
 use Prim.Native.Nat.{ℕ}
 use mathlib.Core.Bool.{Bool, not, _&&_}
 use mathlib.Core.List.{List, [], _∷_, map}
@@ -14,6 +14,7 @@ use Rattle.table.specs.Stations.{stations}
 use Rattle.table.specs.Given.{Line, line, firstOf}
 use Rattle.audit.specs.Check.{wrongLength, malformed}
 use Rattle.filter.specs.Query.{answersFound}
+use Rattle.card.specs.Card.{namesFor}
 use Rattle.table.specs.declared.given.Given.{Given}
 use Rattle.table.specs.declared.given.Given.the-variants.{
   WrongLength,
@@ -98,3 +99,17 @@ queryLines ws q k candidates answers =
 
 unfoldable pub queryGives : Words → Site → ℤ → ℕ → ℕ → Given
 queryGives ws q k candidates answers = firstOf (queryLines ws q k candidates answers)
+
+-- card 1, 2, 3, 5, 8, and 10 if the list, of so many places, is shorter than the card
+abbrev pub cardLines : Words → ℤ → ℤ → ℕ → List Line
+cardLines ws n k places =
+    line (wrongLength ws) WrongLength
+    ∷ line (malformed ws) NotWellFormed
+    ∷ line (noSuchNumber n) NoSuchNumber
+    ∷ line (noSuchK k) NoSuchK
+    ∷ line (not (isEnrolled ws n)) NotEnrolled
+    ∷ line (ltb places (length (namesFor (stations ws) (natOf n) (natOf k)))) ShortList
+    ∷ []
+
+unfoldable pub cardGives : Words → ℤ → ℤ → ℕ → Given
+cardGives ws n k places = firstOf (cardLines ws n k places)

@@ -2,6 +2,7 @@
 // It promises the number that an enrolment, a withdrawal or a query gives on a table that passes the check, and the counts that go with it.
 // It stands on table (the slots), audit (what passes the check) and the query below it (its reply). What a call leaves behind is said in desk.
 pub mod answered;
+pub mod carding;
 pub mod enrolling;
 pub mod querying;
 pub mod refuse;

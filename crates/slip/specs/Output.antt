@@ -1,5 +1,6 @@
 -- 01: "Output, no header: line number from 1, letter (? for 11), number given back;
 -- after a granted Q also n, m, o and the n point numbers. Fields are parted by tabs."
+-- 02 §1: after a granted K also how many names, then the numbers in card order.
 use Prim.Native.Nat.{ℕ, zero, suc, _+_, _/_, _%_}
 use mathlib.Core.Bool.{cond}
 use mathlib.Core.List.{List, [], _∷_, _++_, map}
@@ -8,8 +9,8 @@ use lib.Dec.{ltb}
 use lib.ListN.{length, take, drop}
 use Rattle.sheet.specs.Bytes.{Bytes, TAB, FEED}
 use Rattle.jobs.specs.declared.job.Job.{Job}
-use Rattle.jobs.specs.declared.job.Job.the-variants.{Enrol, Withdraw, Query, MissingK, Misshapen}
-use Rattle.jobs.specs.Job.{ENROL, WITHDRAW, QUERY}
+use Rattle.jobs.specs.declared.job.Job.the-variants.{Enrol, Withdraw, Query, Card, MissingK, Misshapen}
+use Rattle.jobs.specs.Job.{ENROL, WITHDRAW, QUERY, CARD}
 
 -- a number in decimal digits, of which so many are enough
 abbrev pub decimalIn : ℕ → ℕ → Bytes
@@ -25,7 +26,8 @@ abbrev pub letterOf : Job → ℕ
 letterOf (Enrol n a b) = ENROL
 letterOf (Withdraw n) = WITHDRAW
 letterOf (Query a b k) = QUERY
-letterOf MissingK = QUERY
+letterOf (Card n k) = CARD
+letterOf (MissingK letter) = letter
 letterOf Misshapen = 63
 
 -- further fields, each after a tab

@@ -6,7 +6,7 @@ ghost use mathlib.Core.List.{[], _∷_, map};
 ghost use Prim.Native.Nat.{_+_, _*_, _≤_, _<_};
 ghost use lib.ListN.{length, take};
 ghost use Rattle.slip.specs.Output.{decimal, tabbed, headOf, outputLine, Laid};
-ghost use Rattle.jobs.specs.Job.{QUERY};
+ghost use Rattle.jobs.specs.Job.{QUERY, CARD};
 use sheet::marks::FEED;
 use sheet::marks::TAB;
 
@@ -117,5 +117,16 @@ pub fn put_answers(
     let counts = put_head(out, at, number, b'Q', 0);
     let numbers = put_counts(out, counts, n, m, o);
     let end = put_numbers(out, numbers, answers, n);
+    put_byte(out, end, FEED)
+}
+
+// The output line of a granted card, with n names.
+pub fn put_names(out: &mut [u8], at: usize, number: u64, n: usize, names: &[u32]) -> usize
+    requires { ⌜ (at + (65 + 21 * n) ≤ length (now out)) × (n ≤ length (now names)) ⌝ }
+    ensures { λ r. ⌜ Laid (now (out .entry)) at (outputLine number CARD 0 (n ∷ take n (now (names .entry)))) (now (out .exit)) r ⌝ }
+{
+    let count = put_head(out, at, number, b'K', 0);
+    let numbers = put_number(out, count, n as u64);
+    let end = put_numbers(out, numbers, names, n);
     put_byte(out, end, FEED)
 }
