@@ -18,7 +18,7 @@ use Rattle.grid.proofs.Rects.{place-ext}
 use Rattle.grid.proofs.Site.{SiteOnGrid}
 use Rattle.order.specs.Lists.{filter, every, count, All}
 use Rattle.order.specs.Order.{upFrom}
-use Rattle.order.proofs.Lists.{all-at, map-at}
+use Rattle.order.proofs.Lists.{all-at, map-at, all-then}
 use Rattle.order.proofs.Order.{pick-all, up-all}
 use Rattle.table.specs.declared.node.Entry.{Entry}
 use Rattle.figures.specs.Figures.{MOST}
@@ -29,7 +29,6 @@ use Rattle.table.specs.Stations.{stations, isPoint, stationOfEntry}
 use Rattle.rules.specs.Rules.{isEmpty, Passing}
 use Rattle.table.proofs.Nodes.{entry-ext}
 use Rattle.rules.proofs.Tests.{by-test, and-left, and-right}
-use Rattle.rules.proofs.Joined.{all-then}
 use Rattle.rules.proofs.Reading.{point, point-spot, held-points}
 use Rattle.rules.proofs.WellFormed.{well-formed-tree}
 use Rattle.filter.specs.declared.seen.Seen.{Seen}

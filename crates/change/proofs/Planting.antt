@@ -4,14 +4,13 @@ use native.Mathlib.Omega.{arith}
 use mathlib.Core.Path.{_≡_, sym, ap, subst, _∙_}
 use mathlib.Core.List.{map}
 use Rattle.order.specs.Lists.{All}
-use Rattle.order.proofs.Lists.{all-mem}
+use Rattle.order.proofs.Lists.{all-mem, all-map}
 use Rattle.table.specs.declared.node.Entry.{Entry}
 use Rattle.figures.specs.Figures.{LEAST, SLOTS}
 use Rattle.table.specs.Words.{Words}
 use Rattle.table.specs.Page.{page}
 use Rattle.table.specs.Slots.{pageAt, entriesAt}
 use Rattle.table.specs.Tree.{Tree, Filled, entryOfTree, entriesOfTree, leastOf}
-use Rattle.rules.proofs.Joined.{all-map}
 use Rattle.rules.proofs.Reading.{Good, good-child, top-inside, entry-reference, stored-page, stored-child}
 use Rattle.change.specs.Planted.{Planted}
 

@@ -10,7 +10,7 @@ use Rattle.words.specs.Word.{IsWord, natOf}
 use Rattle.grid.specs.Site.{Site}
 use Rattle.grid.proofs.Site.{SiteOnGrid}
 use Rattle.order.specs.Lists.{count, filter, Mem, All}
-use Rattle.order.proofs.Lists.{length-filter, filter-mem, all-mem, mem-all, all-perm}
+use Rattle.order.proofs.Lists.{length-filter, filter-mem, all-mem, mem-all, all-perm, all-then, all-map}
 use Rattle.order.proofs.Order.{sort-perm, sort-length}
 use Rattle.table.specs.declared.given.Given.the-variants.{Done}
 use Rattle.figures.specs.Figures.{MOST, HIGHEST}
@@ -19,7 +19,6 @@ use Rattle.table.specs.Stations.{Station, stations, isPoint, stationOfEntry}
 use Rattle.table.specs.Given.{firstOf}
 use Rattle.table.specs.Empty.{emptyTable}
 use Rattle.rules.specs.Rules.{Passing}
-use Rattle.rules.proofs.Joined.{all-map, all-then}
 use Rattle.rules.proofs.Size.{sound-bounds}
 use Rattle.rules.proofs.Reading.{Point, point, held-points}
 use Rattle.rules.proofs.WellFormed.{empty-is-empty}

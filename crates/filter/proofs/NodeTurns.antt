@@ -10,14 +10,13 @@ use Rattle.grid.specs.declared.place.Place.{Place}
 use Rattle.grid.specs.Place.{RectOnGrid, leastSquare}
 use Rattle.order.specs.Lists.{All}
 use Rattle.order.specs.Order.{rowOf}
-use Rattle.order.proofs.Lists.{all-at}
+use Rattle.order.proofs.Lists.{all-at, all-then}
 use Rattle.table.specs.declared.node.Entry.{Entry}
 use Rattle.table.specs.Words.{Words}
 use Rattle.figures.specs.Figures.{SLOTS}
 use Rattle.table.specs.Page.{blankEntry}
 use Rattle.table.specs.Slots.{entriesAt}
 use Rattle.table.specs.Stations.{isPoint}
-use Rattle.rules.proofs.Joined.{all-then}
 use Rattle.filter.specs.declared.seen.Seen.{Seen}
 use Rattle.filter.specs.Walk.{Found, each, nearestFirst, withOpened, visited, entered, walk}
 use Rattle.filter.specs.Rows.{Rows, foundIn, Kept, Noted, Ready}

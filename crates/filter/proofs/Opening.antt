@@ -11,7 +11,7 @@ use Rattle.grid.specs.Place.{RectOnGrid}
 use Rattle.grid.specs.Site.{Site, placeOf}
 use Rattle.grid.proofs.Site.{SiteOnGrid, place-grid}
 use Rattle.order.specs.Lists.{All}
-use Rattle.order.proofs.Lists.{all-mem}
+use Rattle.order.proofs.Lists.{all-mem, all-map}
 use Rattle.table.specs.declared.node.Entry.{Entry}
 use Rattle.figures.specs.Figures.{LENGTH, LEAST}
 use Rattle.table.specs.Words.{Words, rootOf, pointsOf, isMinusOne, word}
@@ -19,7 +19,6 @@ use Rattle.table.specs.Slots.{levelAt}
 use Rattle.rules.specs.Rules.{isEmpty, wellFormed}
 use Rattle.table.specs.Tree.{Tree, topOf, entryOfTree, leastOf, Stored}
 use Rattle.rules.proofs.Tests.{and-left, and-right, by-test}
-use Rattle.rules.proofs.Joined.{all-map}
 use Rattle.rules.proofs.Size.{some-leaf, sound-bounds}
 use Rattle.rules.proofs.Reading.{
   Good,

@@ -16,13 +16,12 @@ use Rattle.order.specs.Lists.{one, count, All}
 use Rattle.filter.specs.Query.{laidOver}
 use Rattle.filter.specs.Walk.{spotIn}
 use Rattle.filter.specs.Rows.{Rows, entryIn, listed, laidIn, Room, Kept}
-use Rattle.order.proofs.Lists.{map-at, all-at}
+use Rattle.order.proofs.Lists.{map-at, all-at, all-then}
 use Rattle.order.proofs.Order.{pick-all, up-all}
 use Rattle.table.specs.declared.node.Entry.{Entry}
 use Rattle.table.specs.Page.{blankEntry}
 use Rattle.table.specs.Stations.{isPoint}
 use Rattle.table.proofs.Nodes.{entry-ext}
-use Rattle.rules.proofs.Joined.{all-then}
 use Rattle.rules.proofs.Reading.{Point, point, point-spot}
 use Rattle.order.specs.Order.{upFrom}
 

@@ -10,14 +10,13 @@ use lib.Seq.{take-suc}
 use Rattle.grid.specs.declared.place.Place.{Place}
 use Rattle.grid.specs.Place.{PlaceOnGrid, RectOnGrid, leastSquare}
 use Rattle.order.specs.Lists.{All}
-use Rattle.order.proofs.Lists.{by-bool, all-perm, all-append, all-take}
+use Rattle.order.proofs.Lists.{by-bool, all-perm, all-append, all-take, all-then}
 use Rattle.order.proofs.Order.{sort-perm}
 use Rattle.table.specs.declared.node.Entry.{Entry}
 use Rattle.table.specs.Words.{Words}
 use Rattle.table.specs.Page.{blankEntry}
 use Rattle.table.specs.Slots.{entriesAt}
 use Rattle.table.specs.Stations.{isPoint}
-use Rattle.rules.proofs.Joined.{all-then}
 use Rattle.rules.proofs.Reading.{Point, point}
 use Rattle.filter.specs.declared.seen.Seen.{Seen}
 use Rattle.filter.specs.Walk.{Found, each, nearestFirst, pointHidden, boxHidden, withCandidate, withOpened, visited, entered, walk}

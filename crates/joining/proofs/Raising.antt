@@ -20,7 +20,7 @@ use Rattle.rules.specs.Rules.{isEmpty}
 use Rattle.table.specs.Tree.{Tree, topOf, entryOfTree, slotsOf, leavesOf, leastOf}
 use Rattle.table.proofs.Nodes.{shown-page, shows-on}
 use Rattle.rules.proofs.Tests.{and-left, and-right, by-test}
-use Rattle.rules.proofs.Joined.{all-map, all-then}
+use Rattle.order.proofs.Lists.{all-then, all-map}
 use Rattle.rules.proofs.Size.{some-leaf}
 use Rattle.rules.proofs.Reading.{Good, good-root, least-some, held-root, held-points, top-inside, stored-level, stored-entry}
 use Rattle.rules.proofs.WellFormed.{Held, well-formed-tree}

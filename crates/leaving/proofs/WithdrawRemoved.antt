@@ -8,7 +8,7 @@ use lib.Dec.{eqb}
 use lib.ListN.{length, getD, length-append, length-map}
 use borrow.Author.Tests.{ltb-true}
 use Rattle.order.specs.Lists.{one, count, some, firstPlace, join, Mem, All}
-use Rattle.order.proofs.Lists.{by-bool, count-append, all-mem, mem-all, all-append, all-at}
+use Rattle.order.proofs.Lists.{by-bool, count-append, all-mem, mem-all, all-append, all-at, all-then, all-map}
 use Rattle.table.specs.declared.node.Entry.{Entry}
 use Rattle.table.specs.declared.node.Node.{Node}
 use Rattle.figures.specs.Figures.{FAN, LEAST}
@@ -19,7 +19,7 @@ use Rattle.grid.specs.Place.{RectOnGrid}
 use Rattle.table.specs.Tree.{Tree, bough, topOf, entryOfTree, entriesOfTree, slotsOf, leavesOf, Filled, Stored}
 use Rattle.table.proofs.Nodes.{shown-page, shows-on}
 use Rattle.table.proofs.Slots.{page-few}
-use Rattle.rules.proofs.Joined.{all-map, all-then, all-left, all-right}
+use Rattle.rules.proofs.Joined.{all-left, all-right}
 use Rattle.rules.proofs.Counted.{part-count, count-nodup}
 use Rattle.rules.proofs.Reading.{
   Good,

@@ -13,7 +13,7 @@ use borrow.Author.Tests.{eqb-true, eqb-false, eq-eqb, ne-eqb}
 use Rattle.order.specs.Lists.{one, some, join, Mem, All, NoDup}
 use Rattle.order.specs.Order.{Perm}
 use Rattle.order.proofs.Perm.{psym, perm-length, perm-map, perm-mem}
-use Rattle.order.proofs.Lists.{by-bool, by-leb, count-append, perm-count, all-mem, all-at, perm-nodup}
+use Rattle.order.proofs.Lists.{by-bool, by-leb, count-append, perm-count, all-mem, all-at, perm-nodup, all-map}
 use Rattle.table.specs.declared.node.Entry.{Entry}
 use Rattle.figures.specs.Figures.{LEAST, SLOTS, LENGTH}
 use Rattle.table.specs.Words.{Words, word, pointsOf, partAt}
@@ -22,7 +22,6 @@ use Rattle.table.specs.Empty.{emptyTable}
 use Rattle.table.specs.Slots.{levelAt, entriesAt, freed, withPoints}
 use Rattle.table.specs.Tree.{Tree, topOf, entryOfTree, entriesOfTree, slotsOf, leavesOf, leastOf, Filled, Stored, Sound, Holds}
 use Rattle.table.proofs.Slots.{header-part, freed-here, freed-other, freed-long}
-use Rattle.rules.proofs.Joined.{all-map}
 use Rattle.rules.proofs.Counted.{number-missing, number-counted}
 use Rattle.rules.proofs.EmptyTable.{blank-empty}
 use Rattle.rules.proofs.Size.{some-leaf}

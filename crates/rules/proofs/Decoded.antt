@@ -11,7 +11,7 @@ use borrow.Author.Tests.{eqb-true, eqb-false, eq-eqb, ne-eqb}
 use Rattle.order.specs.Lists.{one, count, join, Mem, All, NoDup}
 use Rattle.order.specs.Order.{upFrom}
 use Rattle.order.proofs.Perm.{psym, perm-map, perm-length}
-use Rattle.order.proofs.Lists.{by-bool, perm-count, all-mem, perm-nodup}
+use Rattle.order.proofs.Lists.{by-bool, perm-count, all-mem, perm-nodup, all-map}
 use Rattle.order.proofs.Order.{mem-up}
 use Rattle.table.specs.declared.node.Entry.{Entry}
 use Rattle.figures.specs.Figures.{LEAST, SLOTS}
@@ -23,7 +23,7 @@ use Rattle.table.specs.Stations.{isPoint}
 use Rattle.table.specs.Tree.{Tree, topOf, entryOfTree, entriesOfTree, slotsOf, leavesOf, Filled, leastOf, Stored, Sound, Holds}
 use Rattle.table.proofs.Nodes.{entry-ext, page-ext}
 use Rattle.rules.proofs.Tests.{by-test}
-use Rattle.rules.proofs.Joined.{mem-join, join-mem, map-join, all-join, all-map}
+use Rattle.rules.proofs.Joined.{mem-join, join-mem, map-join, all-join}
 use Rattle.rules.proofs.Counted.{number-counted, counted-number, number-missing, count-nodup, Source, one-source, source-count, up-mem, nodup-up}
 use Rattle.rules.proofs.Reading.{entry-tree}
 use Rattle.rules.proofs.OneSlot.{Here, above-above, above-in, least-other, least-root}

@@ -9,7 +9,7 @@ use Rattle.words.specs.Word.{IsWord, natOf}
 use Rattle.words.proofs.Words.{natural-word}
 use Rattle.order.specs.Lists.{join, All, NoDup}
 use Rattle.order.specs.Order.{upFrom}
-use Rattle.order.proofs.Lists.{all-take, all-drop, all-at}
+use Rattle.order.proofs.Lists.{all-take, all-drop, all-at, all-then}
 use Rattle.figures.specs.Figures.{SLOTS, WIDTH, LENGTH}
 use Rattle.table.specs.Words.{Words, word, startOf, partAt}
 use Rattle.table.specs.Page.{pageOf, pageWords, freeWords}
@@ -17,7 +17,6 @@ use Rattle.table.specs.Slots.{isFree, pageAt, levelAt, entriesAt}
 use Rattle.rules.specs.Rules.{isNatural, isEmpty, numbersAt}
 use Rattle.table.specs.Stations.{isPoint}
 use Rattle.table.proofs.Slots.{part-length, entries-count}
-use Rattle.rules.proofs.Joined.{all-then}
 use Rattle.rules.proofs.Reading.{point}
 use Rattle.rules.proofs.OneSlot.{Here, free-word, leaf-leaf, above-above}
 use Rattle.rules.proofs.Ruled.{Child, Ruled}

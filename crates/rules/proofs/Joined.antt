@@ -61,19 +61,6 @@ pub all-join : {A B : Type 0} (Q : B → Type 0) (f : A → List B) (xs : List A
 all-join Q f [] a = tt
 all-join Q f (x ∷ xs) a = all-append Q (f x) (join f xs) (a .0) (all-join Q f xs (a .1))
 
-pub all-map : {A B : Type 0} (Q : B → Type 0) (f : A → B) (xs : List A) → All (λ x. Q (f x)) xs → All Q (map f xs)
-all-map Q f [] a = tt
-all-map Q f (x ∷ xs) a = (a .0, all-map Q f xs (a .1))
-
--- what follows for each follows for all
-pub all-then : {A : Type 0} (P Q : A → Type 0) → ((x : A) → P x → Q x) → (xs : List A) → All P xs → All Q xs
-all-then P Q k [] a = tt
-all-then P Q k (x ∷ xs) a = (k x (a .0), all-then P Q k xs (a .1))
-
-pub all-both : {A : Type 0} (P Q : A → Type 0) (xs : List A) → All P xs → All Q xs → All (λ x. P x × Q x) xs
-all-both P Q [] a b = tt
-all-both P Q (x ∷ xs) a b = ((a .0, b .0), all-both P Q xs (a .1) (b .1))
-
 -- ---- no element twice
 
 pub nodup-left : {A : Type 0} (xs ys : List A) → NoDup (xs ++ ys) → NoDup xs

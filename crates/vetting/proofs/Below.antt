@@ -15,14 +15,14 @@ use Rattle.grid.specs.Nearer.{nearer}
 use Rattle.grid.proofs.Rects.{dist-sym, least-square-least}
 use Rattle.grid.proofs.Nearer.{far-more}
 use Rattle.order.specs.Lists.{count, join, All}
-use Rattle.order.proofs.Lists.{count-append, join-append, all-mem, all-at, perm-count}
+use Rattle.order.proofs.Lists.{count-append, join-append, all-mem, all-at, perm-count, all-then, all-map}
 use Rattle.table.specs.declared.node.Entry.{Entry}
 use Rattle.figures.specs.Figures.{LEAST, LENGTH}
 use Rattle.table.specs.Words.{Words, rootOf}
 use Rattle.table.specs.Page.{blankEntry}
 use Rattle.table.specs.Slots.{entriesAt, levelAt, slots}
 use Rattle.table.specs.Tree.{Tree, topOf, entryOfTree, leavesOf, Stored}
-use Rattle.rules.proofs.Joined.{join-map, join-same, all-then, all-map}
+use Rattle.rules.proofs.Joined.{join-map, join-same}
 use Rattle.rules.proofs.Reading.{Good, good-child, entry-reference, stored-child, stored-entries, good-root}
 use Rattle.words.specs.Word.{IsWord}
 use Rattle.rules.specs.Rules.{wellFormed, isEmpty, leafEntries}

@@ -22,7 +22,8 @@ use Rattle.table.specs.Words.{Words, rootOf}
 use Rattle.table.specs.Slots.{slots, levelAt}
 use Rattle.table.specs.Stations.{stationOfEntry, stations, isPoint}
 use Rattle.rules.specs.Rules.{leafEntries, isEmpty, wellFormed}
-use Rattle.rules.proofs.Joined.{all-join, all-then}
+use Rattle.order.proofs.Lists.{all-then}
+use Rattle.rules.proofs.Joined.{all-join}
 use Rattle.rules.proofs.Passed.{passed}
 use Rattle.rules.proofs.EachRule.{points-fact}
 use Rattle.rules.proofs.FromRules.{part-fits}

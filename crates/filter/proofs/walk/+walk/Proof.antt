@@ -7,7 +7,7 @@ use borrow.Author.Needs.{needs}
 use Rattle.grid.specs.Place.{RectOnGrid}
 use Rattle.table.specs.Slots.{entriesAt}
 use Rattle.table.proofs.Slots.{page-few}
-use Rattle.rules.proofs.Joined.{all-then}
+use Rattle.order.proofs.Lists.{all-then}
 use Rattle.filter.specs.Walk.{each, nearestFirst, entered, walk as walkOf}
 use Rattle.filter.specs.Rows.{rows, foundIn, Noted}
 use Rattle.filter.proofs.Visits.{kept-grid, kept-square, noted-same, enter-hidden, enter-open, enter-ready}

@@ -9,7 +9,7 @@ use Rattle.grid.specs.Place.{RectOnGrid}
 use Rattle.table.specs.Slots.{entriesAt}
 use Rattle.table.specs.Stations.{isPoint}
 use Rattle.table.proofs.Slots.{page-few}
-use Rattle.rules.proofs.Joined.{all-then}
+use Rattle.order.proofs.Lists.{all-then}
 use Rattle.rules.proofs.Reading.{point, point-upright}
 use Rattle.filter.specs.Walk.{each, nearestFirst, visited}
 use Rattle.filter.specs.Rows.{rows, foundIn, Noted}
