@@ -14,16 +14,12 @@ use Rattle.grid.specs.Nearer.{nearer}
 use Rattle.grid.proofs.Nearer.{far-more, near-self}
 use Rattle.order.specs.Lists.{one, count, filter, Mem, All}
 use Rattle.order.proofs.Perm.{psym, perm-mem}
-use Rattle.order.proofs.Lists.{one-most, filter-mem, mem-filter, all-mem}
+use Rattle.order.proofs.Lists.{one-most, count-most, filter-mem, mem-filter, all-mem}
 use Rattle.order.proofs.Order.{sort-perm}
 use Rattle.table.specs.Stations.{Station}
 use Rattle.filter.specs.Meaning.{nearerOther, answersTo, rising, answer}
 
 -- ---- lists
-
-pub count-most : {A : Type 0} (P : A → Bool) (xs : List A) → count P xs ≤ length xs
-count-most P [] = omega arith
-count-most P (x ∷ xs) = omega (arith, one-most (P x), count-most P xs)
 
 -- one that does not pass is not counted
 count-less : {A : Type 0} (P : A → Bool) {a : A} (xs : List A) → Mem a xs → P a ≡ false → count P xs < length xs

@@ -48,6 +48,10 @@ pub one-most : (b : Bool) → one b ≤ 1
 one-most true = omega arith
 one-most false = omega arith
 
+pub count-most : {A : Type 0} (P : A → Bool) (xs : List A) → count P xs ≤ length xs
+count-most P [] = omega arith
+count-most P (x ∷ xs) = omega (arith, one-most (P x), count-most P xs)
+
 pub count-append : {A : Type 0} (P : A → Bool) (xs ys : List A) → count P (xs ++ ys) ≡ count P xs + count P ys
 count-append P [] ys = omega arith
 count-append P (x ∷ xs) ys = omega (arith, count-append P xs ys)
