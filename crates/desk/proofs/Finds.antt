@@ -10,7 +10,7 @@ use Rattle.words.specs.Word.{IsWord, natOf}
 use Rattle.grid.specs.Site.{Site}
 use Rattle.grid.proofs.Site.{SiteOnGrid}
 use Rattle.order.specs.Lists.{count, filter, Mem, All}
-use Rattle.order.proofs.Lists.{length-filter, filter-mem, all-mem, mem-all, all-perm, all-then, all-map}
+use Rattle.order.proofs.Lists.{length-filter, filter-mem, all-mem, mem-all, all-perm, all-then, all-map, count-most}
 use Rattle.order.proofs.Order.{sort-perm, sort-length}
 use Rattle.table.specs.declared.given.Given.the-variants.{Done}
 use Rattle.figures.specs.Figures.{MOST, HIGHEST}
@@ -27,7 +27,7 @@ use Rattle.filter.specs.Meaning.{answersTo, rising, answer}
 use Rattle.filter.specs.Walk.{Found}
 use Rattle.filter.specs.Query.{recordOf, found, recordsFound, answersFound, laidOver}
 use Rattle.filter.proofs.Answers.{answers-right, candidates-few, candidates-points, opened-few, found-empty, answers-empty, answer-empty}
-use Rattle.filter.proofs.Meaning.{count-most, few-all-answer, answering-in, here-answers}
+use Rattle.filter.proofs.Meaning.{few-all-answer, answering-in, here-answers}
 use Rattle.filter.proofs.Rows.{laid-length}
 use Rattle.refusals.specs.Refusals.{numbersOf, queryGives}
 use Rattle.refusals.specs.Cases.{ifDone, ifShortList}

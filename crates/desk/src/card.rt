@@ -2,9 +2,9 @@
 ghost use Rattle.rules.specs.Rules.{Passes};
 ghost use Rattle.desk.specs.Carding.{Cards};
 use audit::check;
-use naming::card::put_card;
 use naming::find::Whereabouts;
 use naming::find::find;
+use naming::names::put_card;
 use refusals::carding::Carded;
 use refusals::carding::card_asked;
 use refusals::carding::card_refused;

@@ -35,6 +35,6 @@ pub record Namable (ws : Words) (number : ℕ) (p : Place) (k : ℕ) : Type 0 wh
   pub few : k ≤ 16
 
 -- so many names, and they go to the front of the list if it has room for them; the rest of it stays
-pub record Named (ws : Words) (number k : ℕ) (old new : List ℕ) (names : ℕ) : Type 0 where
-  pub names : names ≡ length (namesFor (stations ws) number k)
-  pub list : new ≡ cond (leb names (length old)) (laidOver (namesFor (stations ws) number k) old) old
+pub record Named (ws : Words) (number k : ℕ) (old new : List ℕ) (r : ℕ) : Type 0 where
+  pub names : r ≡ length (namesFor (stations ws) number k)
+  pub list : new ≡ cond (leb r (length old)) (laidOver (namesFor (stations ws) number k) old) old

@@ -2,6 +2,6 @@
 // It promises that the names are those of the card's definition, in card order, and where a station stands.
 // It stands on card (the definition), filter (a node's entries nearest first), table (slots) and grid (distances); its proofs stand on vetting (the points below a node) and rules.
 pub mod best;
-pub mod card;
 pub mod down;
 pub mod find;
+pub mod names;

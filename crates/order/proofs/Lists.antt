@@ -2,6 +2,7 @@
 use Prim.Native.Nat.{ℕ, zero, suc, _+_, _≤_, _<_}
 use native.Mathlib.Omega.{arith}
 use native.Mathlib.Nat.{le-of-suc-le-suc}
+use native.Mathlib.Numerals.{add-one}
 use mathlib.Core.Path.{_≡_, refl, sym, ap, subst, _∙_}
 use mathlib.Core.Logic.{⊎-elim}
 use mathlib.Core.Bool.{Bool, true, false, cond}
@@ -20,6 +21,7 @@ use mathlib.Core.List.{
 }
 use lib.Dec.{leb}
 use lib.ListN.{length, getD, take, drop, set, replicate}
+use lib.Seq.{take-suc}
 use borrow.Author.Tests.{leb-true, leb-false}
 use Rattle.order.specs.Lists.{one, count, filter, join, Mem, All, NoDup, Same}
 use Rattle.order.specs.Order.{Perm, pnil, pskip, pswap, ptrans}
@@ -42,6 +44,13 @@ map-at f [] d e i h = absurd (omega arith)
 map-at f (x ∷ xs) d e zero h = refl
 map-at f (x ∷ xs) d e (suc i) h = map-at f xs d e i (le-of-suc-le-suc h)
 
+-- past its end nothing is left of a list
+pub drop-all : {A : Type 0} (i : ℕ) (xs : List A) → length xs ≤ i → drop i xs ≡ []
+drop-all zero [] h = refl
+drop-all zero (x ∷ xs) h = absurd (omega arith)
+drop-all (suc i) [] h = refl
+drop-all (suc i) (x ∷ xs) h = drop-all i xs (le-of-suc-le-suc h)
+
 -- ---- counts and filters
 
 pub one-most : (b : Bool) → one b ≤ 1
@@ -55,6 +64,12 @@ count-most P (x ∷ xs) = omega (arith, one-most (P x), count-most P xs)
 pub count-append : {A : Type 0} (P : A → Bool) (xs ys : List A) → count P (xs ++ ys) ≡ count P xs + count P ys
 count-append P [] ys = omega arith
 count-append P (x ∷ xs) ys = omega (arith, count-append P xs ys)
+
+-- of the first so many, one more
+pub count-more : {A : Type 0} (P : A → Bool) (xs : List A) (i : ℕ) (d : A) → i < length xs → count P (take (i + 1) xs) ≡ count P (take i xs) + one (P (getD xs i d))
+count-more P xs i d h =
+    let e = ap (λ (j : ℕ). count P (take j xs)) (add-one i) ∙ ap (count P) (take-suc xs i d h) in
+    omega (arith, e, count-append P (take i xs) (getD xs i d ∷ []))
 
 one-mono : (a b : Bool) → (a ≡ true → b ≡ true) → one a ≤ one b
 one-mono true b h = rw (h refl) (omega arith)

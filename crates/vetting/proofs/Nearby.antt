@@ -1,13 +1,11 @@
 -- The loop that counts the records that are nearer: what stands after i turns. Assumes nothing.
 use Prim.Native.Nat.{ℕ, _+_, _≤_, _<_}
 use native.Mathlib.Omega.{arith}
-use native.Mathlib.Numerals.{add-one}
-use mathlib.Core.Path.{_≡_, refl, ap, _∙_}
-use mathlib.Core.List.{List, [], _∷_}
+use mathlib.Core.Path.{_≡_, refl}
+use mathlib.Core.List.{List, []}
 use lib.ListN.{length, getD, take}
-use lib.Seq.{take-suc}
-use Rattle.order.specs.Lists.{one, count}
-use Rattle.order.proofs.Lists.{one-most, count-append}
+use Rattle.order.specs.Lists.{one}
+use Rattle.order.proofs.Lists.{one-most, count-more}
 use Rattle.record.specs.declared.Candidate.{Candidate}
 use Rattle.record.specs.Blank.{none}
 use Rattle.vetting.specs.Tested.{nearerAs, nearerAmong}
@@ -27,10 +25,7 @@ module _ (cs : List Candidate) (c : Candidate) where
 
   among-more : (i : ℕ) → i < length cs → nearerAmong (take (i + 1) cs) c ≡ nearerAmong (take i cs) c + one (nearerAs c (getD cs i none))
   unfolding nearerAmong
-  among-more i h =
-      let d = getD cs i none in
-      let e = ap (λ (j : ℕ). count (nearerAs c) (take j cs)) (add-one i) ∙ ap (count (nearerAs c)) (take-suc cs i none h) in
-      omega (arith, e, count-append (nearerAs c) (take i cs) (d ∷ []))
+  among-more i h = count-more (nearerAs c) cs i none h
 
   pub counted-next : (i n r : ℕ) → Counted i n → i < length cs → r ≡ one (nearerAs c (getD cs i none)) → Counted (i + 1) (n + r)
   counted-next i n r h l e = record {

@@ -15,6 +15,7 @@ use Rattle.grid.specs.Site.{Site, placeOf}
 use Rattle.grid.specs.Nearer.{nearerTo}
 use Rattle.grid.proofs.Site.{SiteOnGrid}
 use Rattle.order.specs.Lists.{one, count, join, All}
+use Rattle.order.proofs.Lists.{count-most}
 use Rattle.order.proofs.Order.{up-all}
 use Rattle.table.specs.declared.node.Entry.{Entry}
 use Rattle.figures.specs.Figures.{SLOTS, LENGTH}
@@ -32,7 +33,6 @@ use Rattle.rules.proofs.Reading.{Point, point}
 use Rattle.filter.specs.Meaning.{nearerOther, answersTo}
 use Rattle.filter.specs.Walk.{spotIn}
 use Rattle.vetting.specs.Test.{otherNearer, passes, below}
-use Rattle.filter.proofs.Meaning.{count-most}
 use Rattle.filter.proofs.Rows.{count-map}
 use Rattle.filter.proofs.Answers.{nearer-site, stations-empty}
 use Rattle.vetting.proofs.Below.{root-count}

@@ -44,14 +44,7 @@ fn put_names(best: &[u64], n: usize, list: &mut [u32])
 }
 
 // The names of the best in the tree go to the list if it has room for them; gives back how many there are.
-fn put_best(
-    table: &[i32],
-    number: usize,
-    p: Place,
-    best: &mut [u64],
-    list: &mut [u32],
-) -> usize
-{
+fn put_best(table: &[i32], number: usize, p: Place, best: &mut [u64], list: &mut [u32]) -> usize {
     let root = root_of(table);
     let level = level_at(table, root);
     offer_below(table, root, level, number, p, best);
