@@ -1,3 +1,4 @@
 pub mod Inserted
 pub mod CardNames
+pub mod Marking
 pub mod Standing

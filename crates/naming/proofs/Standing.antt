@@ -2,13 +2,15 @@
 use Prim.Native.Nat.{ℕ, zero, suc, _+_, _-_, _≤_, _<_}
 use native.Mathlib.Omega.{arith}
 use native.Mathlib.Numerals.{add-one}
-use mathlib.Core.Path.{_≡_, refl, sym, ap, _∙_}
+use mathlib.Core.Path.{_≡_, refl, sym, ap, subst, _∙_}
 use mathlib.Core.Bool.{Bool, true, false, cond}
 use mathlib.Core.List.{List, [], _∷_, _++_, append-nil}
 use lib.Dec.{eqb}
 use lib.ListN.{length, drop, getD}
 use lib.Seq.{drop-cons}
 use borrow.Author.Tests.{eq-eqb, ne-eqb}
+use types.Run.{OneOf, miss}
+use denote.Enum.Declared.{tagOf}
 use Rattle.order.specs.Lists.{join}
 use Rattle.order.specs.Order.{upFrom}
 use Rattle.order.proofs.Lists.{by-bool}
@@ -21,6 +23,7 @@ use Rattle.filter.specs.Walk.{spotIn}
 use Rattle.naming.specs.declared.find.Whereabouts.{Whereabouts}
 use Rattle.naming.specs.declared.find.Whereabouts.the-variants.{At, Nowhere}
 use Rattle.naming.specs.Named.{whereIn, whereOf}
+use Rattle.naming.proofs.find.Whereabouts.{the-type}
 
 module _ (number : ℕ) where
   -- ---- entry by entry
@@ -67,6 +70,15 @@ module _ (number : ℕ) where
   no-slot f n slot h =
       let e : n - slot ≡ 0 = omega arith in
       rw e
+
+-- ---- by the case of the answer
+
+pub somewhere : (w : Whereabouts) → OneOf (0 ∷ []) (tagOf the-type w) → w ≡ Nowhere → ⊥
+somewhere w m e = miss (0 ∷ []) 1 tt (subst (λ (v : Whereabouts). OneOf (0 ∷ []) (tagOf the-type v)) e m)
+
+pub nowhere : (w : Whereabouts) → OneOf (1 ∷ []) (tagOf the-type w) → w ≡ Nowhere
+nowhere (At p) m = absurd (miss (1 ∷ []) 0 tt m)
+nowhere Nowhere m = refl
 
 -- from slot to slot; nothing of it is computed
 abbrev pub StandsFrom : Words → ℕ → ℕ → Type 0

@@ -1,0 +1,115 @@
+-- The marks of the others among some points: of points joined or permuted, and of the points in a box that lies further away than the last of the best. What the best are after the first of a node's entries. Assumes nothing.
+use Prim.Native.Nat.{ℕ, suc, _+_, _-_, _*_, _/_, _≤_, _<_}
+use native.Mathlib.Omega.{arith}
+use native.Mathlib.Numerals.{add-one}
+use mathlib.Core.Path.{_≡_, refl, sym, ap, subst, _∙_}
+use mathlib.Core.Bool.{Bool, true, false, cond}
+use mathlib.Core.List.{List, [], _∷_, _++_, map, map-append, append-nil}
+use lib.Dec.{eqb}
+use lib.ListN.{length, take, getD, length-append}
+use lib.Seq.{take-suc, take-all}
+use borrow.Author.Tests.{eq-eqb, ne-eqb}
+use Rattle.grid.specs.declared.place.Place.{Place}
+use Rattle.grid.specs.declared.rect.Rect.{Rect}
+use Rattle.grid.specs.Place.{Inside, dist², leastSquare}
+use Rattle.grid.proofs.Rects.{dist-sym, least-square-least}
+use Rattle.order.specs.Lists.{filter, join, All, Rises}
+use Rattle.order.specs.Order.{Perm, least}
+use Rattle.order.proofs.Perm.{perm-map}
+use Rattle.order.proofs.Lists.{join-append, perm-count, all-map, all-then, all-mem, mem-all, filter-mem, count-append}
+use Rattle.order.proofs.Least.{upTo, rises-last, least-rises, least-length, least-same, least-row, least-more, least-beyond}
+use Rattle.table.specs.declared.node.Entry.{Entry}
+use Rattle.filter.specs.Walk.{spotIn}
+use Rattle.filter.proofs.Rising.{filter-append, perm-filter}
+use Rattle.naming.specs.Holders.{BASE, markOf, squareIn, markFrom, isAnother, marksOf}
+
+module _ (number : ℕ) (p : Place) where
+  pub marks-none : marksOf number p [] ≡ []
+  unfolding marksOf
+  marks-none = refl
+
+  pub marks-append : (xs ys : List Entry) → marksOf number p (xs ++ ys) ≡ marksOf number p xs ++ marksOf number p ys
+  unfolding marksOf
+  marks-append xs ys =
+      ap (map (markFrom p)) (filter-append (isAnother number) xs ys)
+      ∙ map-append (markFrom p) (filter (isAnother number) xs) (filter (isAnother number) ys)
+
+  -- the station itself has none
+  pub marks-itself : (e : Entry) → e .reference ≡ number → marksOf number p (e ∷ []) ≡ []
+  unfolding marksOf
+  marks-itself e h = rw (eq-eqb (e .reference) number h)
+
+  pub marks-other : (e : Entry) → (e .reference ≡ number → ⊥) → marksOf number p (e ∷ []) ≡ markOf (dist² (spotIn e) p) (e .reference) ∷ []
+  unfolding marksOf markFrom
+  marks-other e h = rw (ne-eqb (e .reference) number h)
+
+  -- points in another order have the same best
+  pub least-perm : (k : ℕ) {xs ys : List Entry} (row : List ℕ) → Perm xs ys → least k (marksOf number p xs ++ row) ≡ least k (marksOf number p ys ++ row)
+  unfolding marksOf
+  least-perm k {xs} {ys} row perm =
+      let same = perm-count (perm-map (markFrom p) (perm-filter (isAnother number) perm)) in
+      let ms = map (markFrom p) (filter (isAnother number) xs) in
+      let ns = map (markFrom p) (filter (isAnother number) ys) in
+      least-same k (ms ++ row) (ns ++ row) (λ v. omega (arith, same (upTo v), count-append (upTo v) ms row, count-append (upTo v) ns row))
+
+  -- no point in a box is nearer than the box
+  pub marks-beyond : (r : Rect) (es : List Entry) (last : ℕ) → All (λ c. Inside (spotIn c) r) es → squareIn last < leastSquare r p
+      → All (λ m. last ≤ m) (marksOf number p es)
+  unfolding marksOf markFrom
+  marks-beyond r es last inside h =
+      all-map (λ m. last ≤ m) (markFrom p) (filter (isAnother number) es)
+      (all-mem (λ c. last ≤ markFrom p c) (filter (isAnother number) es)
+      (λ c m.
+      let away : leastSquare r p ≤ dist² (spotIn c) p = rw (dist-sym (spotIn c) p) (least-square-least p (mem-all (λ c. Inside (spotIn c) r) es inside (filter-mem (isAnother number) es m .0))) in
+      omega arith))
+
+-- ---- the best after the first of a node's entries: S has the points below an entry
+
+module _ (number : ℕ) (p : Place) (S : Entry → List Entry) (xs : List Entry) (row : List ℕ) where
+  abbrev first : ℕ → List ℕ
+  first i = marksOf number p (join S (take i xs))
+
+  abbrev pub SoFar : ℕ → List ℕ → Type 0
+  SoFar i best = best ≡ least (length row) (first i ++ row)
+
+  first-next : (i : ℕ) (d : Entry) → i < length xs → first (i + 1) ≡ first i ++ marksOf number p (S (getD xs i d))
+  first-next i d h =
+      ap (λ (n : ℕ). first n) (add-one i)
+      ∙ ap (λ l. marksOf number p (join S l)) (take-suc xs i d h)
+      ∙ ap (marksOf number p) (join-append S (take i xs) (getD xs i d ∷ []))
+      ∙ marks-append number p (join S (take i xs)) (join S (getD xs i d ∷ []))
+      ∙ ap (λ l. first i ++ marksOf number p l) (append-nil (S (getD xs i d)))
+
+  pub sofar-none : Rises row → SoFar 0 row
+  sofar-none r = least-row (length row) row refl r ∙ ap (λ l. least (length row) (l ++ row)) (sym (marks-none number p))
+
+  pub sofar-rises : (i : ℕ) (best : List ℕ) → SoFar i best → Rises best
+  sofar-rises i best e = rw e (least-rises (length row) (first i ++ row))
+
+  pub sofar-long : (i : ℕ) (best : List ℕ) → SoFar i best → length best ≡ length row
+  sofar-long i best e = ap length e ∙ least-length (length row) (first i ++ row) ∙ omega (arith, length-append (first i) row)
+
+  -- one entry more
+  pub sofar-next : (i : ℕ) (best best′ : List ℕ) (d : Entry) → i < length xs → SoFar i best
+      → best′ ≡ least (length best) (marksOf number p (S (getD xs i d)) ++ best) → SoFar (i + 1) best′
+  sofar-next i best best′ d h e f =
+      let more = marksOf number p (S (getD xs i d)) in
+      f
+      ∙ ap (λ (k : ℕ). least k (more ++ best)) (sofar-long i best e)
+      ∙ ap (λ l. least (length row) (more ++ l)) e
+      ∙ least-more (length row) more (first i) row
+      ∙ ap (λ l. least (length row) (l ++ row)) (sym (first-next i d h))
+
+  -- an entry whose box is passed by
+  pub sofar-beyond : (i : ℕ) (best : List ℕ) (d : Entry) (r : Rect) → i < length xs → SoFar i best → 0 < length row
+      → All (λ c. Inside (spotIn c) r) (S (getD xs i d)) → squareIn (getD best (length best - 1) 0) < leastSquare r p → SoFar (i + 1) best
+  sofar-beyond i best d r h e some inside far =
+      let more = marksOf number p (S (getD xs i d)) in
+      let last = getD best (length best - 1) 0 in
+      let below = rises-last best (length best - 1) (omega (arith, sofar-long i best e)) (sofar-rises i best e) in
+      e
+      ∙ least-beyond (length row) more (first i) row (omega arith) last (subst (λ l. All (λ n. n ≤ last) l) e below) (marks-beyond number p r (S (getD xs i d)) last inside far)
+      ∙ ap (λ l. least (length row) (l ++ row)) (sym (first-next i d h))
+
+  pub sofar-all : (i : ℕ) (best : List ℕ) → length xs ≤ i → SoFar i best → best ≡ least (length row) (marksOf number p (join S xs) ++ row)
+  sofar-all i best h e = e ∙ ap (λ l. least (length row) (marksOf number p (join S l) ++ row)) (take-all i xs h)
