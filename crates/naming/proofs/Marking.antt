@@ -16,10 +16,12 @@ use Rattle.grid.proofs.Rects.{dist-sym, least-square-least}
 use Rattle.order.specs.Lists.{filter, join, All, Rises}
 use Rattle.order.specs.Order.{Perm, least}
 use Rattle.order.proofs.Perm.{perm-map}
-use Rattle.order.proofs.Lists.{join-append, perm-count, all-map, all-then, all-mem, mem-all, filter-mem, count-append}
+use Rattle.order.proofs.Order.{sort-perm}
+use Rattle.order.proofs.Lists.{join-append, perm-join, perm-count, all-map, all-then, all-mem, mem-all, filter-mem, count-append}
 use Rattle.order.proofs.Least.{upTo, rises-last, least-rises, least-length, least-same, least-row, least-more, least-beyond}
 use Rattle.table.specs.declared.node.Entry.{Entry}
-use Rattle.filter.specs.Walk.{spotIn}
+use Rattle.filter.specs.Walk.{spotIn, nearestFirst}
+use Rattle.filter.proofs.Taken.{taken-length}
 use Rattle.filter.proofs.Rising.{filter-append, perm-filter}
 use Rattle.naming.specs.Holders.{BASE, markOf, squareIn, markFrom, isAnother, marksOf}
 
@@ -113,3 +115,15 @@ module _ (number : ℕ) (p : Place) (S : Entry → List Entry) (xs : List Entry)
 
   pub sofar-all : (i : ℕ) (best : List ℕ) → length xs ≤ i → SoFar i best → best ≡ least (length row) (marksOf number p (join S xs) ++ row)
   sofar-all i best h e = e ∙ ap (λ l. least (length row) (marksOf number p (join S l) ++ row)) (take-all i xs h)
+
+-- all of a node's entries, nearest first
+module _ (number : ℕ) (p : Place) (S : Entry → List Entry) (es : List Entry) (row : List ℕ) where
+  first-perm : Perm (nearestFirst p 0 es) es
+  unfolding nearestFirst
+  first-perm = sort-perm (λ e. leastSquare (e .rect) p) es
+
+  pub sofar-node : (i : ℕ) (best : List ℕ) → length es ≤ i → SoFar number p S (nearestFirst p 0 es) row i best
+      → best ≡ least (length row) (marksOf number p (join S es) ++ row)
+  sofar-node i best h e =
+      sofar-all number p S (nearestFirst p 0 es) row i best (omega (arith, taken-length es p 0)) e
+      ∙ least-perm number p (length row) row (perm-join S first-perm)
