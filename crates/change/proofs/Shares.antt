@@ -8,18 +8,13 @@ use Rattle.grid.specs.Place.{longerAxis, sumOn}
 use Rattle.order.specs.Lists.{All}
 use Rattle.order.specs.Order.{Perm, sortBy}
 use Rattle.order.proofs.Perm.{perm-length}
-use Rattle.order.proofs.Lists.{all-perm, all-take, all-drop}
+use Rattle.order.proofs.Lists.{map-take, all-perm, all-take, all-drop}
 use Rattle.order.proofs.Order.{sort-perm, sort-map}
 use Rattle.table.specs.declared.node.Entry.{Entry}
 use Rattle.table.specs.Page.{coverOf}
 use Rattle.change.specs.Share.{lined, firstShare, otherShare}
 
 -- ---- maps of a part of a list
-
-pub map-take : {A B : Type 0} (f : A → B) (n : ℕ) (xs : List A) → map f (take n xs) ≡ take n (map f xs)
-map-take f zero xs = refl
-map-take f (suc n) [] = refl
-map-take f (suc n) (x ∷ xs) = ap (λ l. f x ∷ l) (map-take f n xs)
 
 pub map-drop : {A B : Type 0} (f : A → B) (n : ℕ) (xs : List A) → map f (drop n xs) ≡ drop n (map f xs)
 map-drop f zero xs = refl

@@ -41,7 +41,7 @@ use Rattle.rules.proofs.WellFormed.{well-formed-tree}
 -- ---- a leaf's entry as a station
 
 -- its place in steps is that of its station
-point-site : (e : Entry) → Point e → SiteWords (stationOfEntry e .site) × (placeOf (stationOfEntry e .site) ≡ spotIn e)
+pub point-site : (e : Entry) → Point e → SiteWords (stationOfEntry e .site) × (placeOf (stationOfEntry e .site) ≡ spotIn e)
 point-site e p =
     let bx : e .rect .x .low < 2 ^ 32 = omega (arith, p .x .grid) in
     let by : e .rect .y .low < 2 ^ 32 = omega (arith, p .y .grid) in

@@ -44,6 +44,11 @@ map-at f [] d e i h = absurd (omega arith)
 map-at f (x ∷ xs) d e zero h = refl
 map-at f (x ∷ xs) d e (suc i) h = map-at f xs d e i (le-of-suc-le-suc h)
 
+pub map-take : {A B : Type 0} (f : A → B) (n : ℕ) (xs : List A) → map f (take n xs) ≡ take n (map f xs)
+map-take f zero xs = refl
+map-take f (suc n) [] = refl
+map-take f (suc n) (x ∷ xs) = ap (λ l. f x ∷ l) (map-take f n xs)
+
 -- past its end nothing is left of a list
 pub drop-all : {A : Type 0} (i : ℕ) (xs : List A) → length xs ≤ i → drop i xs ≡ []
 drop-all zero [] h = refl

@@ -82,7 +82,7 @@ module _ (ws : Words) (long : length ws ≡ LENGTH) (fits : All IsWord ws) (w : 
   leaf-points : (s : ℕ) → s < SLOTS → All (λ e. isPoint e ≡ true) (leafEntries ws s)
   leaf-points s h = points-fact ws s (passed ws w .four s h)
 
-  all-points : All Point (join (leafEntries ws) slots)
+  pub all-points : All Point (join (leafEntries ws) slots)
   all-points =
       all-then (λ e. isPoint e ≡ true) Point point (join (leafEntries ws) slots)
       (all-join (λ e. isPoint e ≡ true) (leafEntries ws) slots

@@ -5,11 +5,10 @@ use mathlib.Core.Path.{_≡_, refl, sym, ap, _∙_}
 use lib.ListN.{length, take, getD, length-map}
 use lib.Seq.{paste, paste-zero}
 use Rattle.order.specs.Order.{pick}
-use Rattle.order.proofs.Lists.{all-at}
+use Rattle.order.proofs.Lists.{map-take, all-at}
 use Rattle.order.proofs.Order.{pick-at}
 use Rattle.table.specs.Page.{page, blankEntry}
 use Rattle.table.proofs.Nodes.{full, copy-more, copy-shows}
-use Rattle.change.proofs.Shares.{map-take}
 use Rattle.change.proofs.share.placed_by.Statement.{statement}
 use Rattle.change.proofs.share.placed_by.Tie as tie
 
