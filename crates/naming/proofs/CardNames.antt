@@ -1,5 +1,5 @@
 -- The names of the best marks, and that they are those of the card. Assumes nothing.
-use Prim.Native.Nat.{ℕ, suc, _+_, _*_, _%_, _≤_, _<_, min}
+use Prim.Native.Nat.{ℕ, zero, suc, _+_, _*_, _%_, _≤_, _<_, min}
 use native.Mathlib.Omega.{arith}
 use native.Mathlib.Numerals.{add-one}
 use native.Mathlib.Decide.{decLe}
@@ -13,7 +13,7 @@ use lib.Seq.{take-suc, length-take-le}
 use borrow.Author.Tests.{eqb-true, le-leb, lt-leb, lt-ltb, le-ltb}
 use Rattle.words.specs.Word.{IsWord}
 use Rattle.grid.specs.declared.place.Place.{Place}
-use Rattle.grid.specs.Place.{dist²}
+use Rattle.grid.specs.Place.{PlaceOnGrid, dist²}
 use Rattle.grid.specs.Site.{distance², placeOf}
 use Rattle.grid.proofs.Rects.{dist-most}
 use Rattle.grid.proofs.Site.{dist-sites}
@@ -46,7 +46,7 @@ use Rattle.card.specs.Card.{inCardOrder, cardOf, namesOf, namesOfFirst, namesFo
 use Rattle.card.proofs.Lines.{order-perm, in-line}
 use Rattle.naming.specs.declared.find.Whereabouts.the-variants.{At, Nowhere}
 use Rattle.naming.specs.Holders.{BASE, markOf, numberIn, markFrom, isAnother, marksOf}
-use Rattle.naming.specs.Named.{whereIn, whereOf}
+use Rattle.naming.specs.Named.{whereIn, whereOf, Named}
 
 -- one name more
 module _ (best old : List ℕ) (i : ℕ) (h : i < length best) (room : i < length old) where
@@ -122,12 +122,17 @@ count-below v ns = count-same (λ n. ltb n (suc v)) (upTo v) ns (all-mem (λ n. 
       | no h ↦ le-ltb n (suc v) (omega arith) ∙ sym (lt-leb n v (omega arith))
     ]))
 
+-- a row with no holder yet
+pub blank-rises : (k : ℕ) → Rises (replicate k NONE)
+blank-rises zero = tt
+blank-rises (suc k) = (all-replicate (λ m. NONE ≤ m) k NONE (omega arith), blank-rises k)
+
 -- NONE stands where no holder is, so the holders come first
 module _ (k : ℕ) (ms : List ℕ) (known : All (λ m. m < NONE) ms) where
   abbrev padded : List ℕ
   padded = least k (ms ++ replicate k NONE)
 
-  pub holders-first : take (count (λ m. ltb m NONE) padded) padded ≡ least k ms
+  holders-first : take (count (λ m. ltb m NONE) padded) padded ≡ least k ms
   holders-first =
       let n = count (λ m. ltb m NONE) padded in
       let here : n ≡ low 18446744073709551614 padded = count-below 18446744073709551614 padded in
@@ -218,6 +223,11 @@ module _ (ws : Words) (pass : Passing ws) (number : ℕ) (p : Place) (there : wh
       by-bool (λ b. isEmpty ws ≡ b → b ≡ false) (isEmpty ws)
       (λ t e. absurd (List·Memᴰ·not-nil (subst (Mem (stationOfEntry it)) (sym same ∙ stations-empty ws e) (Memᴰ·map stationOfEntry (is-it .0))))) (λ t e. refl) refl
 
+  pub stands-grid : PlaceOnGrid p
+  stands-grid =
+      let mine = mem-all Point leaves points (is-it .0) in
+      subst PlaceOnGrid (found .place) (record { x = mine .x .grid; y = mine .y .grid })
+
   -- its card
   its-names : (k : ℕ) → namesFor (stations ws) number k ≡ namesOf (stations ws) (stationOfEntry it) k
   unfolding namesFor
@@ -279,7 +289,7 @@ module _ (ws : Words) (pass : Passing ws) (number : ℕ) (p : Place) (there : wh
         ∙ ap (count R) (sym same)
         ∙ sym (count-marked (upTo v) (markAs (stations ws) P) (isOther P) (stations ws))
 
-  pub names-best : (k level root : ℕ) → root ≡ rootOf ws → level ≡ levelAt ws root → (best : List ℕ) → best ≡ least k (marksOf number p (below level ws root) ++ replicate k NONE)
+  names-best : (k level root : ℕ) → root ≡ rootOf ws → level ≡ levelAt ws root → (best : List ℕ) → best ≡ least k (marksOf number p (below level ws root) ++ replicate k NONE)
       → (n : ℕ) → n ≡ count (λ m. ltb m NONE) best → map numberIn (take n best) ≡ namesFor (stations ws) number k
   names-best k level root isRoot isLevel best e n h =
       let P = stationOfEntry it in
@@ -293,3 +303,23 @@ module _ (ws : Words) (pass : Passing ws) (number : ℕ) (p : Place) (there : wh
       ∙ ap (map numberIn) (holders-first k ms known)
       ∙ sym (names-marks (stations ws) P small k)
       ∙ sym (its-names k)
+
+  -- so many names, at the front of the list if it has room for them
+  module _ (k level root : ℕ) (isRoot : root ≡ rootOf ws) (isLevel : level ≡ levelAt ws root) (best : List ℕ) (is : best ≡ least k (marksOf number p (below level ws root) ++ replicate k NONE)) (n : ℕ) (many : n ≡ count (λ m. ltb m NONE) best) (old : List ℕ) where
+    pub names-few : n ≤ length best
+    names-few = omega (arith, many, count-most (λ m. ltb m NONE) best)
+
+    names-many : n ≡ length (namesFor (stations ws) number k)
+    names-many =
+        sym (length-take-le n best names-few)
+        ∙ sym (length-map (take n best) numberIn)
+        ∙ ap length (names-best k level root isRoot isLevel best is n many)
+
+    pub named-laid : n ≤ length old → (new : List ℕ) → new ≡ laidOver (map numberIn (take n best)) old → Named ws number k old new n
+    named-laid room new e = record {
+      names = names-many;
+      list = rw (le-leb n (length old) room) (e ∙ ap (λ l. laidOver l old) (names-best k level root isRoot isLevel best is n many));
+    }
+
+    pub named-left : length old < n → Named ws number k old old n
+    named-left short = record { names = names-many; list = rw (lt-leb n (length old) short) }

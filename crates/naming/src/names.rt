@@ -3,7 +3,7 @@ ghost use mathlib.Core.Path.{_≡_};
 ghost use mathlib.Core.List.{map};
 ghost use Prim.Native.Nat.{_≤_};
 ghost use lib.Dec.{ltb};
-ghost use lib.ListN.{length, take};
+ghost use lib.ListN.{length, take, replicate};
 ghost use Rattle.order.specs.Lists.{count as countOf};
 ghost use Rattle.order.specs.Order.{NONE};
 ghost use Rattle.filter.specs.Query.{laidOver};
@@ -44,7 +44,11 @@ fn put_names(best: &[u64], n: usize, list: &mut [u32])
 }
 
 // The names of the best in the tree go to the list if it has room for them; gives back how many there are.
-fn put_best(table: &[i32], number: usize, p: Place, best: &mut [u64], list: &mut [u32]) -> usize {
+// The row has a place for each name of the card, with no holder yet. What it has afterwards nobody reads.
+fn put_best(table: &[i32], number: usize, p: Place, best: &mut [u64], list: &mut [u32]) -> usize
+    requires { ⌜ Namable (now table) number p (length (now best)) × (now best ≡ replicate (length (now best)) NONE) ⌝ }
+    ensures { λ r. ⌜ Named (now (table .entry)) number (length (now (best .entry))) (now (list .entry)) (now (list .exit)) r ⌝ }
+{
     let root = root_of(table);
     let level = level_at(table, root);
     offer_below(table, root, level, number, p, best);

@@ -233,8 +233,13 @@ offer-below-requires t c κs =
     let a = s .args in
     let up = l .before .before .before .if1 .left in (
       omega (arith, up, s .pre .0),
-      ((s .pre .1 .0 .0, s .pre .1 .0 .1, child-here t e .0 .1, child-here t e .1 .1), (omega (arith, best-long t l, s .pre .1 .1 .0),
-      sofar-rises (a .number) (a .p) (under (a .table .now) (a .level)) (nearestFirst (a .p) 0 (entriesAt (a .table .now) (a .slot))) (a .best .now) (l .loop .i) (l .loop .best) (l .loop .inv .1))),
+      (
+        (s .pre .1 .0 .0, s .pre .1 .0 .1, child-here t e .0 .1, child-here t e .1 .1),
+        (
+          omega (arith, best-long t l, s .pre .1 .1 .0),
+          sofar-rises (a .number) (a .p) (under (a .table .now) (a .level)) (nearestFirst (a .p) 0 (entriesAt (a .table .now) (a .slot))) (a .best .now) (l .loop .i) (l .loop .best) (l .loop .inv .1),
+        ),
+      ),
     )
 
 loop-less-2 : (t : ℕ) → lts.Need-loop-less-2 (knows t) (here t) offer-below.Post Inv-loop μ-loop
