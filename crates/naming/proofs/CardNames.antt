@@ -127,6 +127,15 @@ pub blank-rises : (k : ℕ) → Rises (replicate k NONE)
 blank-rises zero = tt
 blank-rises (suc k) = (all-replicate (λ m. NONE ≤ m) k NONE (omega arith), blank-rises k)
 
+-- the front of such a row
+pub take-blank : (k n : ℕ) → k ≤ n → take k (replicate n NONE) ≡ replicate k NONE
+take-blank zero n h = refl
+take-blank (suc k) zero h = absurd (omega arith)
+take-blank (suc k) (suc n) h = ap (λ l. NONE ∷ l) (take-blank k n (omega arith))
+
+pub blank-long : (k n : ℕ) → k ≤ n → length (take k (replicate n NONE)) ≡ k
+blank-long k n h = ap length (take-blank k n h) ∙ length-replicate k NONE
+
 -- NONE stands where no holder is, so the holders come first
 module _ (k : ℕ) (ms : List ℕ) (known : All (λ m. m < NONE) ms) where
   abbrev padded : List ℕ
