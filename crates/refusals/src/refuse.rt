@@ -1,12 +1,11 @@
 // The lines of document 01's table of refusals that speak of what is asked, and of what the table holds.
 ghost use mathlib.Core.Path.{_≡_};
-ghost use Prim.Native.Nat.{_<_};
 ghost use lib.ListN.{length};
-ghost use Rattle.order.specs.Lists.{has};
-ghost use Rattle.figures.specs.Figures.{SLOTS, LENGTH};
-ghost use Rattle.rules.specs.Rules.{numbersAt};
+ghost use Rattle.figures.specs.Figures.{LENGTH};
 ghost use Rattle.refusals.specs.Refusals.{site, noSuchNumber, offGrid, noSuchK, isEnrolled, isFull};
 use figures::Table;
+use naming::find::Whereabouts;
+use naming::find::find;
 use table::slot;
 use words::border;
 
@@ -42,41 +41,16 @@ pub(crate) fn no_such_k(k: i32) -> bool
     16 < least
 }
 
-// Whether a number stands in a slot. A free slot has level −1, so it is no leaf.
-fn stands_in(table: &[i32], slot: usize, number: usize) -> bool
-    requires { ⌜ (length (now table) ≡ LENGTH) × (slot < SLOTS) ⌝ }
-    ensures { λ r. ⌜ r ≡ has number (numbersAt (now (table .entry)) slot) ⌝ }
-{
-    if slot::level_at(table, slot) != 0 {
-        return false;
-    }
-    // Its entries one by one: a node would be built only to be searched.
-    let count = slot::count_at(table, slot);
-    let mut i = 0;
-    while i < count {
-        let e = slot::entry_at(table, slot, i);
-        if e.reference == number {
-            return true;
-        }
-        i += 1;
-    }
-    false
-}
-
 // 6 and 8: whether the number is enrolled.
 pub(crate) fn is_enrolled(table: &[i32], number: i32) -> bool
     requires { ⌜ length (now table) ≡ LENGTH ⌝ }
     ensures { λ r. ⌜ r ≡ isEnrolled (now (table .entry)) number ⌝ }
 {
-    let n = border::natural(number);
-    let mut slot = 0;
-    while slot < Table::SLOTS {
-        if stands_in(table, slot, n) {
-            return true;
-        }
-        slot += 1;
-    }
-    false
+    let found = find(table, border::natural(number));
+    let Whereabouts::At(_) = found else {
+        return false;
+    };
+    true
 }
 
 // 7: 500 points enrolled.
