@@ -5,7 +5,7 @@ ghost use lib.ListN.{length};
 ghost use Rattle.rules.specs.Rules.{Passes};
 ghost use Rattle.clerk.specs.Running.{lent, longestLine, RanJob, RanOne};
 use desk::answers::answers_passing;
-use desk::card::card_passing;
+use desk::cards::card_passing;
 use desk::enrol::enrol_passing;
 use desk::withdraw::withdraw_passing;
 use jobs::job::Job;
