@@ -11,8 +11,8 @@ use desk::withdraw::withdraw_passing;
 use jobs::job::Job;
 use jobs::job::job_of;
 use slip::put_answers;
-use slip::put_names;
 use slip::put_line;
+use slip::put_names;
 use table::given::Given;
 use table::given::number_given;
 
