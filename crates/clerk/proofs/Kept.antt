@@ -1,26 +1,29 @@
 -- What a line keeps: a table that passes the check passes it afterwards, and the answer list is as long as it was; and how long its output line is at most. Job by job. Assumes nothing.
 use Prim.Native.Nat.{ℕ, _+_, _≤_}
-use mathlib.Core.Path.{_≡_, refl, ap, _∙_}
-use mathlib.Core.List.{List, []}
+use mathlib.Core.Path.{_≡_, refl, ap}
+use mathlib.Core.List.{List, [], _∷_}
 use native.Mathlib.Omega.{arith}
-use lib.ListN.{length, length-take}
+use lib.ListN.{length, take, length-take}
 use Rattle.words.specs.Word.{natOf}
 use Rattle.table.specs.declared.given.Given.{Given}
+use Rattle.table.specs.declared.given.Given.the-variants.{Done}
 use Rattle.table.specs.Given.{numberGiven}
+use Rattle.table.specs.Stations.{stations}
 use Rattle.rules.specs.Rules.{Passing}
 use Rattle.filter.specs.Query.{answersFound, laidOver}
-use Rattle.refusals.specs.Refusals.{site, queryGives}
+use Rattle.card.specs.Card.{namesFor}
+use Rattle.refusals.specs.Refusals.{site, queryGives, cardGives}
 use Rattle.refusals.specs.Cases.{ifDone}
-use Rattle.desk.specs.Calls.{Queried, afterQuery}
+use Rattle.desk.specs.Calls.{Queried, afterQuery, afterCard}
 use Rattle.desk.specs.Alone.{blankList}
 use Rattle.desk.specs.Demands.{enrol, withdraw}
 use Rattle.refusals.proofs.Given.{by-given}
-use Rattle.desk.proofs.Granted.{query-granted}
+use Rattle.desk.proofs.Granted.{query-granted, card-granted}
 use Rattle.desk.proofs.Kept.{call-kept}
 use Rattle.filter.proofs.Rows.{laid-length}
 use Rattle.sheet.specs.Bytes.{Bytes}
 use Rattle.jobs.specs.declared.job.Job.{Job}
-use Rattle.jobs.specs.declared.job.Job.the-variants.{Enrol, Withdraw, Query, MissingK, Misshapen}
+use Rattle.jobs.specs.declared.job.Job.the-variants.{Enrol, Withdraw, Query, Card, MissingK, Misshapen}
 use Rattle.jobs.specs.Job.{jobOf}
 use Rattle.slip.specs.Output.{letterOf}
 use Rattle.slip.proofs.Decimal.{line-room}
@@ -33,7 +36,8 @@ job-passing : (st : State) → Passing (st .words) → (j : Job) → Passing (ra
 job-passing st p (Enrol n a b) = call-kept p (enrol n (site a b)) .passing
 job-passing st p (Withdraw n) = call-kept p (withdraw n) .passing
 job-passing st p (Query a b k) = p
-job-passing st p MissingK = p
+job-passing st p (Card n k) = p
+job-passing st p (MissingK letter) = p
 job-passing st p Misshapen = p
 
 pub line-passing : (st : State) → Passing (st .words) → (line : Bytes) → Passing (ranLine st line .state .words)
@@ -42,20 +46,26 @@ line-passing st p line = job-passing st p (jobOf line)
 
 -- ---- the answer list
 
+-- what a granted call makes is laid over the list, and a refused one leaves it
+list-kept : (g : Given) (made old : List ℕ) → (g ≡ Done → length made ≤ length old) → length (ifDone g (laidOver made old) old) ≡ length old
+list-kept g made old fits =
+    by-given g (λ e. rw e (laid-length made old (fits e))) (λ e. rw e) (λ p. ap length (p .done (laidOver made old) old))
+
 job-answers : (st : State) (j : Job) → length (ranJob st j .state .answers) ≡ length (st .answers)
-unfolding afterQuery
+unfolding afterQuery afterCard
 job-answers st (Enrol n a b) = refl
 job-answers st (Withdraw n) = refl
 job-answers st (Query a b k) =
     let q = site a b in
     let room = length blankList in
-    let old = st .answers in
-    let found = answersFound (st .words) q (natOf k) in
-    by-given (queryGives (st .words) q k room (length old))
-    (λ e. ap (λ g. length (ifDone g (laidOver found old) old)) e ∙ laid-length found old (query-granted (st .words) q k room (length old) e .1))
-    (λ e. ap (λ g. length (ifDone g (laidOver found old) old)) e)
-    (λ p. ap length (p .done (laidOver found old) old))
-job-answers st MissingK = refl
+    let places = length (st .answers) in
+    list-kept (queryGives (st .words) q k room places) (answersFound (st .words) q (natOf k)) (st .answers)
+    (λ e. query-granted (st .words) q k room places e .1)
+job-answers st (Card n k) =
+    let places = length (st .answers) in
+    list-kept (cardGives (st .words) n k places) (namesFor (stations (st .words)) (natOf n) (natOf k)) (st .answers)
+    (λ e. card-granted (st .words) n k places e .1)
+job-answers st (MissingK letter) = refl
 job-answers st Misshapen = refl
 
 pub line-answers : (st : State) (line : Bytes) → length (ranLine st line .state .answers) ≡ length (st .answers)
@@ -77,7 +87,10 @@ job-more st (Withdraw n) = omega arith
 job-more st (Query a b k) =
     let r = afterQuery (st .words) (site a b) k blankList (st .answers) in
     omega (arith, if-most (r .given) (granted r), granted-most r, job-answers st (Query a b k))
-job-more st MissingK = omega arith
+job-more st (Card n k) =
+    let r = afterCard (st .words) n k (st .answers) in
+    omega (arith, if-most (r .given) (r .names ∷ take (r .names) (r .list)), length-take (r .names) (r .list), job-answers st (Card n k))
+job-more st (MissingK letter) = omega arith
 job-more st Misshapen = omega arith
 
 pub line-most : (number : ℕ) (st : State) (line : Bytes) → length (lineOutput number st line) ≤ longestLine (length (st .answers))

@@ -27,12 +27,14 @@ use Rattle.table.specs.declared.given.Given.the-variants.{
 }
 use Rattle.figures.specs.Figures.{MOST, LENGTH, HIGHEST}
 use Rattle.table.specs.Words.{Words, pointsOf, between}
+use Rattle.table.specs.Stations.{stations}
 use Rattle.rules.specs.Rules.{wellFormed, Passing}
 use Rattle.table.specs.Given.{Line, line, firstOf}
 use Rattle.audit.specs.Check.{wrongLength, malformed, checkGives}
 use Rattle.filter.specs.Query.{answersFound}
+use Rattle.card.specs.Card.{namesFor}
 use Rattle.rules.proofs.Tests.{and-left, and-right, between-true}
-use Rattle.refusals.specs.Refusals.{noSuchNumber, offGrid, noSuchK, isEnrolled, isFull, enrolGives, withdrawGives, queryGives}
+use Rattle.refusals.specs.Refusals.{noSuchNumber, offGrid, noSuchK, isEnrolled, isFull, enrolGives, withdrawGives, queryGives, cardGives}
 use Rattle.refusals.proofs.Given.{passed-before, last-holds, all-passed}
 
 -- ---- a line that is passed
@@ -82,6 +84,14 @@ fewCandidates ws room = line (ltb room (pointsOf ws)) FewCandidates
 
 abbrev fewAnswers : Words → Site → ℤ → ℕ → Line
 fewAnswers ws q k places = line (ltb places (length (answersFound ws q (natOf k)))) ShortList
+
+-- a card's before the last
+abbrev beforeShort : Words → ℤ → ℤ → List Line
+beforeShort ws n k = line (noSuchNumber n) NoSuchNumber ∷ line (noSuchK k) NoSuchK ∷ line (not (isEnrolled ws n)) NotEnrolled ∷ []
+
+-- and the last
+abbrev fewNames : Words → ℤ → ℤ → ℕ → Line
+fewNames ws n k places = line (ltb places (length (namesFor (stations ws) (natOf n) (natOf k)))) ShortList
 
 -- ---- what a grant means
 
@@ -152,6 +162,32 @@ query-granted ws q k room places e =
     let last = passed-before Done ls [] refl (h .1) .0 .0 in
     (query-ready ws q k room (h .0), ltb-false places (length (answersFound ws q (natOf k))) last)
 
+-- a card passes all lines but the last
+pub record CardReady (ws : Words) (n k : ℤ) : Type 0 where
+  pub long : length ws ≡ LENGTH
+  pub rules : wellFormed ws ≡ true
+  pub number : Within 1 HIGHEST (natOf n)
+  pub count : Within 1 16 (natOf k)
+  pub enrolled : isEnrolled ws n ≡ true
+
+card-ready : (ws : Words) (n k : ℤ) → All (λ l. l .holds ≡ false) (checked ws (beforeShort ws n k)) → CardReady ws n k
+card-ready ws n k h = record {
+  long = right-length ws (h .0);
+  rules = not-false (wellFormed ws) (h .1 .0);
+  number = within 1 HIGHEST (natOf n) (h .1 .1 .0);
+  count = within 1 16 (natOf k) (h .1 .1 .1 .0);
+  enrolled = not-false (isEnrolled ws n) (h .1 .1 .1 .1 .0);
+}
+
+pub card-granted : (ws : Words) (n k : ℤ) (places : ℕ) → cardGives ws n k places ≡ Done
+    → CardReady ws n k × (length (namesFor (stations ws) (natOf n) (natOf k)) ≤ places)
+unfolding cardGives
+card-granted ws n k places e =
+    let ls = fewNames ws n k places ∷ [] in
+    let h = passed-before Done (checked ws (beforeShort ws n k)) ls refl e in
+    let last = passed-before Done ls [] refl (h .1) .0 .0 in
+    (card-ready ws n k (h .0), ltb-false places (length (namesFor (stations ws) (natOf n) (natOf k))) last)
+
 -- ---- what a refusal for room means
 
 -- 7: the table has 500 points at least
@@ -169,6 +205,15 @@ query-short ws q k room places e =
     let h = passed-before ShortList (readyLines ws q k room) (fewAnswers ws q k places ∷ []) refl e in
     let last = last-holds (fewAnswers ws q k places .holds) ShortList refl (h .1) in
     (query-ready ws q k room (h .0), ltb-true places (length (answersFound ws q (natOf k))) last)
+
+-- 10: all is in order but for the list, which is shorter than the card
+pub card-short : (ws : Words) (n k : ℤ) (places : ℕ) → cardGives ws n k places ≡ ShortList
+    → CardReady ws n k × (places < length (namesFor (stations ws) (natOf n) (natOf k)))
+unfolding cardGives
+card-short ws n k places e =
+    let h = passed-before ShortList (checked ws (beforeShort ws n k)) (fewNames ws n k places ∷ []) refl e in
+    let last = last-holds (fewNames ws n k places .holds) ShortList refl (h .1) in
+    (card-ready ws n k (h .0), ltb-true places (length (namesFor (stations ws) (natOf n) (natOf k))) last)
 
 -- ---- on a table that passes the check
 

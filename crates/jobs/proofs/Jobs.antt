@@ -1,11 +1,12 @@
 -- The definitions of a job, over the number of fields and each field by its place, as the code takes them. By the cases of a list. Assumes nothing.
-use Prim.Native.Nat.{ℕ, _≤_, _<_}
+use Prim.Native.Nat.{ℕ, zero, suc, _+_, _≤_, _<_}
 use mathlib.Core.Path.{_≡_, refl}
 use mathlib.Core.List.{List, [], _∷_}
 use native.Mathlib.Omega.{arith}
 use borrow.Author.Tests.{ne-eqb}
 use lib.IntN.{ℤ}
 use lib.ListN.{length, drop, getD}
+use lib.Seq.{drop-nil}
 use mir.Syntax.{w32}
 use mir.Val.{SFits, toZ, ofZ}
 use mir.ValLaws.{toZ-ofZ}
@@ -13,9 +14,9 @@ use Rattle.sheet.specs.Bytes.{Bytes}
 use Rattle.jobs.specs.declared.number.Read.{Read}
 use Rattle.jobs.specs.declared.number.Read.the-variants.{Number, NoNumber}
 use Rattle.jobs.specs.declared.job.Job.{Job}
-use Rattle.jobs.specs.declared.job.Job.the-variants.{Enrol, Withdraw, Query, MissingK, Misshapen}
+use Rattle.jobs.specs.declared.job.Job.the-variants.{Enrol, Withdraw, Query, Card, MissingK, Misshapen}
 use Rattle.jobs.specs.Number.{readNumber}
-use Rattle.jobs.specs.Job.{withNumber, enrolJob, withdrawJob, kJob, queryJob, ENROL, WITHDRAW, QUERY, byLetter, byFields}
+use Rattle.jobs.specs.Job.{withNumber, enrolJob, withdrawJob, withK, queryJob, cardJob, ENROL, WITHDRAW, QUERY, CARD, byLetter, byFields}
 
 -- go on with the number in a field of those that there are
 abbrev pub withField : List Bytes → ℕ → (ℤ → Job) → Job
@@ -50,37 +51,61 @@ withdraw-other (l ∷ []) e = refl
 withdraw-other (l ∷ n ∷ []) e = absurd (e refl)
 withdraw-other (l ∷ n ∷ x ∷ more) e = refl
 
--- a third field that is not there is as one that is empty
-pub query-fields : (fs : List Bytes) → 3 ≤ length fs → length fs ≤ 4
-    → queryJob (drop 1 fs) ≡ withField fs 1 (λ a. withField fs 2 (λ b. kJob a b (getD fs 3 [])))
-query-fields [] e h = absurd (omega arith)
-query-fields (l ∷ []) e h = absurd (omega arith)
-query-fields (l ∷ x ∷ []) e h = absurd (omega arith)
-query-fields (l ∷ x ∷ y ∷ []) e h = refl
-query-fields (l ∷ x ∷ y ∷ k ∷ []) e h = refl
-query-fields (l ∷ x ∷ y ∷ k ∷ z ∷ more) e h = absurd (omega arith)
+pub query-fields : (fs : List Bytes) → 3 ≤ length fs
+    → queryJob (drop 1 fs) ≡ withField fs 1 (λ a. withField fs 2 (λ b. withK QUERY (drop 3 fs) (λ k. Query a b k)))
+query-fields [] e = absurd (omega arith)
+query-fields (l ∷ []) e = absurd (omega arith)
+query-fields (l ∷ x ∷ []) e = absurd (omega arith)
+query-fields (l ∷ x ∷ y ∷ rest) e = refl
 
 pub query-few : (fs : List Bytes) → length fs < 3 → queryJob (drop 1 fs) ≡ Misshapen
 query-few [] e = refl
 query-few (l ∷ []) e = refl
 query-few (l ∷ x ∷ []) e = refl
-query-few (l ∷ x ∷ y ∷ more) e = absurd (omega arith)
+query-few (l ∷ x ∷ y ∷ rest) e = absurd (omega arith)
 
-pub query-many : (fs : List Bytes) → 4 < length fs → queryJob (drop 1 fs) ≡ Misshapen
-query-many [] e = absurd (omega arith)
-query-many (l ∷ []) e = absurd (omega arith)
-query-many (l ∷ x ∷ []) e = absurd (omega arith)
-query-many (l ∷ x ∷ y ∷ []) e = absurd (omega arith)
-query-many (l ∷ x ∷ y ∷ k ∷ []) e = absurd (omega arith)
-query-many (l ∷ x ∷ y ∷ k ∷ z ∷ more) e = refl
+pub card-fields : (fs : List Bytes) → 2 ≤ length fs
+    → cardJob (drop 1 fs) ≡ withField fs 1 (λ n. withK CARD (drop 2 fs) (λ k. Card n k))
+card-fields [] e = absurd (omega arith)
+card-fields (l ∷ []) e = absurd (omega arith)
+card-fields (l ∷ n ∷ rest) e = refl
 
-pub k-missing : (a b : ℤ) (f : Bytes) → length f ≡ 0 → kJob a b f ≡ MissingK
-k-missing a b [] e = refl
-k-missing a b (c ∷ cs) e = absurd (omega arith)
+pub card-few : (fs : List Bytes) → length fs < 2 → cardJob (drop 1 fs) ≡ Misshapen
+card-few [] e = refl
+card-few (l ∷ []) e = refl
+card-few (l ∷ n ∷ rest) e = absurd (omega arith)
 
-pub k-there : (a b : ℤ) (f : Bytes) → (length f ≡ 0 → ⊥) → kJob a b f ≡ withNumber (readNumber f) (λ k. Query a b k)
-k-there a b [] e = absurd (e refl)
-k-there a b (c ∷ cs) e = refl
+-- ---- k is the last field that there may be; one that is not there is as one that is empty
+
+module _ (letter : ℕ) (next : ℤ → Job) where
+  pub k-many : (fs : List Bytes) (i : ℕ) → i + 1 < length fs → withK letter (drop i fs) next ≡ Misshapen
+  k-many [] i m = absurd (omega arith)
+  k-many (f ∷ []) zero m = absurd (omega arith)
+  k-many (f ∷ g ∷ more) zero m = refl
+  k-many (f ∷ fs) (suc i) m = k-many fs i (omega arith)
+
+  pub k-missing : (fs : List Bytes) (i : ℕ) → length fs ≤ i + 1 → length (getD fs i []) ≡ 0 → withK letter (drop i fs) next ≡ MissingK letter
+  k-missing [] i l e = rw (drop-nil i)
+  k-missing ([] ∷ []) zero l e = refl
+  k-missing ((b ∷ bs) ∷ []) zero l e = absurd (omega arith)
+  k-missing (f ∷ g ∷ more) zero l e = absurd (omega arith)
+  k-missing (f ∷ fs) (suc i) l e = k-missing fs i (omega arith) e
+
+  pub k-there : (fs : List Bytes) (i : ℕ) → length fs ≤ i + 1 → (length (getD fs i []) ≡ 0 → ⊥)
+      → withK letter (drop i fs) next ≡ withField fs i next
+  k-there [] i l e = absurd (e refl)
+  k-there ([] ∷ []) zero l e = absurd (e refl)
+  k-there ((b ∷ bs) ∷ []) zero l e = refl
+  k-there (f ∷ g ∷ more) zero l e = absurd (omega arith)
+  k-there (f ∷ fs) (suc i) l e = k-there fs i (omega arith) e
+
+-- where no number leads to a job, the line is misshapen
+pub no-job : (fs : List Bytes) (i : ℕ) (next : ℤ → Job) → ((z : ℤ) → next z ≡ Misshapen) → withField fs i next ≡ Misshapen
+no-job fs i next none = go (readNumber (getD fs i []))
+  where
+    go : (r : Read) → withNumber r next ≡ Misshapen
+    go (Number z) = none z
+    go NoNumber = refl
 
 pub first-letter : (fs : List Bytes) → length (getD fs 0 []) ≡ 1 → byFields fs ≡ byLetter (getD (getD fs 0 []) 0 0) (drop 1 fs)
 first-letter [] e = absurd (omega arith)
@@ -106,5 +131,6 @@ heard r f z next e n s = rw (← e, n, toZ-ofZ w32 z s)
 pub unheard : (r : Read) (f : Bytes) (next : ℤ → Job) → r ≡ readNumber f → r ≡ NoNumber → withNumber (readNumber f) next ≡ Misshapen
 unheard r f next e n = rw (← e, n)
 
-pub letter-other : (b : ℕ) (more : List Bytes) → (b ≡ ENROL → ⊥) → (b ≡ WITHDRAW → ⊥) → (b ≡ QUERY → ⊥) → byLetter b more ≡ Misshapen
-letter-other b more e w q = simp (ne-eqb b ENROL e, ne-eqb b WITHDRAW w, ne-eqb b QUERY q)
+pub letter-other : (b : ℕ) (more : List Bytes) → (b ≡ ENROL → ⊥) → (b ≡ WITHDRAW → ⊥) → (b ≡ QUERY → ⊥) → (b ≡ CARD → ⊥)
+    → byLetter b more ≡ Misshapen
+letter-other b more e w q k = simp (ne-eqb b ENROL e, ne-eqb b WITHDRAW w, ne-eqb b QUERY q, ne-eqb b CARD k)

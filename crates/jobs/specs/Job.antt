@@ -43,23 +43,21 @@ QUERY = 81
 abbrev pub CARD : ℕ
 CARD = 75
 
--- the last field of a line with this letter is k: empty is a missing k
-abbrev pub withK : ℕ → Bytes → (ℤ → Job) → Job
+-- what is left of a line with this letter is its k; no further field, or just one, empty, is a missing k
+abbrev pub withK : ℕ → List Bytes → (ℤ → Job) → Job
 withK letter [] next = MissingK letter
-withK letter (c ∷ cs) next = withNumber (readNumber (c ∷ cs)) next
+withK letter ([] ∷ []) next = MissingK letter
+withK letter ((c ∷ cs) ∷ []) next = withNumber (readNumber (c ∷ cs)) next
+withK letter (k ∷ z ∷ more) next = Misshapen
 
 abbrev pub queryJob : List Bytes → Job
 queryJob [] = Misshapen
 queryJob (x ∷ []) = Misshapen
-queryJob (x ∷ y ∷ []) = withNumber (readNumber x) (λ a. withNumber (readNumber y) (λ b. MissingK QUERY))
-queryJob (x ∷ y ∷ k ∷ []) = withNumber (readNumber x) (λ a. withNumber (readNumber y) (λ b. withK QUERY k (λ c. Query a b c)))
-queryJob (x ∷ y ∷ k ∷ z ∷ more) = Misshapen
+queryJob (x ∷ y ∷ rest) = withNumber (readNumber x) (λ a. withNumber (readNumber y) (λ b. withK QUERY rest (λ k. Query a b k)))
 
 abbrev pub cardJob : List Bytes → Job
 cardJob [] = Misshapen
-cardJob (n ∷ []) = withNumber (readNumber n) (λ number. MissingK CARD)
-cardJob (n ∷ k ∷ []) = withNumber (readNumber n) (λ number. withK CARD k (λ c. Card number c))
-cardJob (n ∷ k ∷ z ∷ more) = Misshapen
+cardJob (n ∷ rest) = withNumber (readNumber n) (λ number. withK CARD rest (λ k. Card number k))
 
 abbrev pub byLetter : ℕ → List Bytes → Job
 byLetter letter more =

@@ -2,11 +2,12 @@
 // It promises, by the definitions in specs/, every byte of an output line, and that every other byte of the buffer stays.
 // It stands on sheet (the marks), jobs (the letters) and order (lists).
 ghost use mathlib.Core.Path.{_≡_};
-ghost use mathlib.Core.List.{[], _∷_, map};
+ghost use mathlib.Core.List.{[], _∷_, _++_, map};
 ghost use Prim.Native.Nat.{_+_, _*_, _≤_, _<_};
 ghost use lib.ListN.{length, take};
 ghost use Rattle.slip.specs.Output.{decimal, tabbed, headOf, outputLine, Laid};
 ghost use Rattle.jobs.specs.Job.{QUERY, CARD};
+ghost use Rattle.sheet.specs.Bytes.{FEED};
 use sheet::marks::FEED;
 use sheet::marks::TAB;
 
@@ -101,6 +102,15 @@ pub fn put_line(out: &mut [u8], at: usize, number: u64, letter: u8, given: u8) -
     put_byte(out, end, FEED)
 }
 
+// The end of a line that lists: the first n of a row of numbers, each after a tab, and the line feed.
+fn put_list(out: &mut [u8], at: usize, numbers: &[u32], n: usize) -> usize
+    requires { ⌜ (at + (1 + 21 * n) ≤ length (now out)) × (n ≤ length (now numbers)) ⌝ }
+    ensures { λ r. ⌜ Laid (now (out .entry)) at (tabbed (map decimal (take n (now (numbers .entry)))) ++ FEED ∷ []) (now (out .exit)) r ⌝ }
+{
+    let end = put_numbers(out, at, numbers, n);
+    put_byte(out, end, FEED)
+}
+
 // The output line of a granted query, with n answers.
 pub fn put_answers(
     out: &mut [u8],
@@ -115,9 +125,8 @@ pub fn put_answers(
     ensures { λ r. ⌜ Laid (now (out .entry)) at (outputLine number QUERY 0 (n ∷ m ∷ o ∷ take n (now (answers .entry)))) (now (out .exit)) r ⌝ }
 {
     let counts = put_head(out, at, number, b'Q', 0);
-    let numbers = put_counts(out, counts, n, m, o);
-    let end = put_numbers(out, numbers, answers, n);
-    put_byte(out, end, FEED)
+    let list = put_counts(out, counts, n, m, o);
+    put_list(out, list, answers, n)
 }
 
 // The output line of a granted card, with n names.
@@ -126,7 +135,6 @@ pub fn put_names(out: &mut [u8], at: usize, number: u64, n: usize, names: &[u32]
     ensures { λ r. ⌜ Laid (now (out .entry)) at (outputLine number CARD 0 (n ∷ take n (now (names .entry)))) (now (out .exit)) r ⌝ }
 {
     let count = put_head(out, at, number, b'K', 0);
-    let numbers = put_number(out, count, n as u64);
-    let end = put_numbers(out, numbers, names, n);
-    put_byte(out, end, FEED)
+    let list = put_number(out, count, n as u64);
+    put_list(out, list, names, n)
 }

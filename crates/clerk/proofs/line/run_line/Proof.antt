@@ -3,9 +3,9 @@ use mathlib.Core.Path.{sym, subst, _∙_}
 use mathlib.Core.List.{[]}
 use Rattle.refusals.specs.Refusals.{site, enrolGives, withdrawGives}
 use Rattle.desk.specs.Calls.{afterEnrol, afterWithdraw}
-use Rattle.refusals.proofs.CallTests.{one-passed, three-passed, three-back}
-use Rattle.jobs.specs.declared.job.Job.the-variants.{Query}
-use Rattle.jobs.specs.Job.{ENROL, WITHDRAW, QUERY}
+use Rattle.refusals.proofs.CallTests.{one-passed, three-passed, two-back, three-back}
+use Rattle.jobs.specs.declared.job.Job.the-variants.{Query, Card}
+use Rattle.jobs.specs.Job.{ENROL, WITHDRAW}
 use Rattle.slip.specs.Output.{outputLine, Laid}
 use Rattle.clerk.specs.Running.{lent, RanJob}
 use Rattle.clerk.proofs.Jobs.{line-ran, enrol-ran, withdraw-ran, missing-ran, misshapen-ran}
@@ -46,8 +46,14 @@ enum-known-job-3 c = search needs
 run-query-requires : tie.Need-run-query-requires
 run-query-requires c κs = search needs
 
-enum-told : tie.Need-enum-told
-enum-told c = search needs
+enum-known-job-4 : tie.Need-enum-known-job-4
+enum-known-job-4 c = search needs
+
+run-card-requires : tie.Need-run-card-requires
+run-card-requires c κs = search needs
+
+enum-known-job-5 : tie.Need-enum-known-job-5
+enum-known-job-5 c = search needs
 
 number-given-requires-3 : tie.Need-number-given-requires-3
 number-given-requires-3 c κs = search needs
@@ -55,8 +61,8 @@ number-given-requires-3 c κs = search needs
 put-line-requires-3 : tie.Need-put-line-requires-3
 put-line-requires-3 c κs = search needs
 
-enum-told-2 : tie.Need-enum-told-2
-enum-told-2 c = search needs
+enum-told : tie.Need-enum-told
+enum-told c = search needs
 
 number-given-requires-4 : tie.Need-number-given-requires-4
 number-given-requires-4 c κs = search needs
@@ -140,27 +146,53 @@ returns-3 c =
 same-length-8 : tie.Need-same-length-8
 same-length-8 c = search needs
 
-returns-4 : tie.Need-returns-4
-returns-4 c =
-    let t = c .before .before .before .before .before in
-    let s = c .before .before .before .before .before .before .before .before .before .before .before in
-    let a = s .args in
-    let p = c .before .before .put-line3 in
-    let laid = subst (λ g. Laid (a .out .now) (a .at) (outputLine (a .number) QUERY g []) (p .last .0) (p .result)) (c .before .before .before .number-given3 .ensures) (p .ensures) in
-    line-ran (sym (t .enum-told .given .1) ∙ t .before .before .job-of .ensures)
-    (missing-ran (a .number) (lent (a .table .now) (a .answers .now)) (a .out .now) (a .at) (p .last .0) (p .result) laid)
-
 same-length-9 : tie.Need-same-length-9
 same-length-9 c = search needs
 
+same-length-10 : tie.Need-same-length-10
+same-length-10 c = search needs
+
+returns-4 : tie.Need-returns-4
+returns-4 c =
+    let t = c .before .before .before .before .before .before .before .before in
+    let s = c .before .before .before .before .before .before .before .before .before .before .before .before .before .before .before in
+    let a = s .args in
+    let ws = a .table .now in
+    let j = t .before .job4 .given in
+    let fits = t .known-told4 .given in
+    let q = c .before .before .before .before .run-card in
+    let l = q .last .1 .1 .1 .1 in
+    let ran =
+    two-back (λ u v. RanJob (a .number) (Card u v) (lent ws (a .answers .now)) (lent ws (l .0)) (a .out .now) (a .at) (l .1 .0) (q .result)) (j .0 .0) (j .0 .1 .0)
+    (record { sfits = fits .0 .1 }) (record { sfits = fits .1 .0 .1 }) (q .ensures) in
+    line-ran (sym (j .1) ∙ t .before .before .before .job-of .ensures) ran
+
+same-length-11 : tie.Need-same-length-11
+same-length-11 c = search needs
+
 returns-5 : tie.Need-returns-5
 returns-5 c =
+    let t = c .before .before .before .before .before in
+    let s = c .before .before .before .before .before .before .before .before .before .before .before .before in
+    let a = s .args in
+    let j = t .before .job5 .given in
+    let letter = j .0 .0 in
+    let p = c .before .before .put-line3 in
+    let laid = subst (λ g. Laid (a .out .now) (a .at) (outputLine (a .number) letter g []) (p .last .0) (p .result)) (c .before .before .before .number-given3 .ensures) (p .ensures) in
+    line-ran (sym (j .1) ∙ t .before .before .before .job-of .ensures)
+    (missing-ran (a .number) (lent (a .table .now) (a .answers .now)) (a .out .now) (a .at) (p .last .0) (p .result) letter laid)
+
+same-length-12 : tie.Need-same-length-12
+same-length-12 c = search needs
+
+returns-6 : tie.Need-returns-6
+returns-6 c =
     let t = c .before .before .before .before .before in
     let s = c .before .before .before .before .before .before .before .before .before .before .before in
     let a = s .args in
     let p = c .before .before .put-line4 in
     let laid = subst (λ g. Laid (a .out .now) (a .at) (outputLine (a .number) 63 g []) (p .last .0) (p .result)) (c .before .before .before .number-given4 .ensures) (p .ensures) in
-    line-ran (sym (t .enum-told2 .given .1) ∙ t .before .before .job-of .ensures)
+    line-ran (sym (t .enum-told .given .1) ∙ t .before .before .job-of .ensures)
     (misshapen-ran (a .number) (lent (a .table .now) (a .answers .now)) (a .out .now) (a .at) (p .last .0) (p .result) laid)
 
 pub run-line-spec : {M : Type 1} → statement M
@@ -178,10 +210,12 @@ run-line-spec =
     put-line-requires-2
     enum-known-job-3
     run-query-requires
-    enum-told
+    enum-known-job-4
+    run-card-requires
+    enum-known-job-5
     number-given-requires-3
     put-line-requires-3
-    enum-told-2
+    enum-told
     number-given-requires-4
     put-line-requires-4
     same-length
@@ -195,6 +229,10 @@ run-line-spec =
     same-length-7
     returns-3
     same-length-8
-    returns-4
     same-length-9
-    returns-5)
+    same-length-10
+    returns-4
+    same-length-11
+    returns-5
+    same-length-12
+    returns-6)

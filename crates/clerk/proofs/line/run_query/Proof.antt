@@ -1,17 +1,31 @@
 -- `clerk::line::run_query` meets its contract: a refusal prints its number, and a granted query its counts and its answers. Assumes nothing.
-use mathlib.Core.Path.{subst}
-use mathlib.Core.List.{[]}
+use mathlib.Core.List.{_∷_}
 use native.Mathlib.Omega.{arith}
+use lib.ListN.{take}
 use Rattle.refusals.specs.Refusals.{site}
 use Rattle.desk.specs.Alone.{AnswersAlone}
 use Rattle.refusals.proofs.CallTests.{three-back}
 use Rattle.refusals.proofs.CallOrder.{not-done}
-use Rattle.jobs.specs.Job.{QUERY}
-use Rattle.slip.specs.Output.{outputLine, Laid}
-use Rattle.clerk.proofs.Jobs.{refused-ran, granted-ran, answers-room}
+use Rattle.jobs.specs.declared.job.Job.the-variants.{Query}
+use Rattle.clerk.proofs.Jobs.{Lists, refused-ran, granted-ran, query-lists}
 use borrow.Author.Needs.{needs}
 use Rattle.clerk.proofs.line.run_query.Statement.{statement}
 use Rattle.clerk.proofs.line.run_query.Tie as tie
+
+-- what the desk told
+lists : (c : tie.After-answers-passing)
+    → let a = c .before .before .before .before .args in
+    let r = c .answers-passing .result in
+    let new = c .answers-passing .last .1 .1 .1 .1 .0 in
+    Lists (Query (a .x) (a .y) (a .k)) (a .table .now) (a .answers .now) new (r .given) (r .n) (r .n ∷ r .m ∷ r .o ∷ take (r .n) new)
+lists c =
+    let s = c .before .before .before .before in
+    let a = s .args in
+    let y = c .answers-passing in
+    let new = y .last .1 .1 .1 .1 .0 in
+    query-lists
+    (three-back (λ u v w. AnswersAlone (a .table .now) (site u v) w (a .answers .now) new (y .result)) (a .x) (a .y) (a .k)
+    (s .fits .x) (s .fits .y) (s .fits .k) (y .ensures))
 
 answers-passing-requires : tie.Need-answers-passing-requires
 answers-passing-requires c κs = search needs
@@ -33,26 +47,14 @@ same-length-2 c = search needs
 
 returns : tie.Need-returns
 returns c =
-    let s = c .before .before .before .before .before .before .before .before .before .before .before .before in
-    let a = s .args in
-    let y = c .before .before .before .before .before .before .before .before .answers-passing in
-    let new = y .last .1 .1 .1 .1 .0 in
-    let told = three-back (λ u v w. AnswersAlone (a .table .now) (site u v) w (a .answers .now) new (y .result)) (a .x) (a .y) (a .k) (s .fits .x) (s .fits .y) (s .fits .k) (y .ensures) in
-    let p = c .before .before .put-line in
-    let laid = subst (λ n. Laid (a .out .now) (a .at) (outputLine (a .number) QUERY n []) (p .last .0) (p .result)) (c .before .before .before .number-given .ensures) (p .ensures) in
-    refused-ran (a .number) (a .table .now) (a .x) (a .y) (a .k) (a .answers .now) new (y .result) told (a .out .now) (a .at) (p .last .0) (p .result)
-    (not-done _ (c .before .before .before .before .before .match .keys2)) laid
+    let t = c .before .before .before .before .before .before .before .before in
+    refused-ran (lists t) (not-done _ (c .before .before .before .before .before .match .keys2)) (c .before .before .before .number-given .ensures) (c .before .before .put-line .ensures)
 
 put-answers-requires : tie.Need-put-answers-requires
 put-answers-requires c κs =
-    let s = c .before .before .before .before .before .before .before .before .before .before in
-    let a = s .args in
-    let y = c .before .before .before .before .before .before .answers-passing in
-    let new = y .last .1 .1 .1 .1 .0 in
-    let told = three-back (λ u v w. AnswersAlone (a .table .now) (site u v) w (a .answers .now) new (y .result)) (a .x) (a .y) (a .k) (s .fits .x) (s .fits .y) (s .fits .k) (y .ensures) in
-    let room = answers-room (a .number) (a .table .now) (a .x) (a .y) (a .k) (a .answers .now) new (y .result) told (a .out .now) (a .at) (a .out .now) (a .at)
-    (c .before .before .enum-told .given .1) in
-    (omega (arith, room, s .pre .1), omega (arith, room, y .kept .1 .1 .1 .1 .0))
+    let t = c .before .before .before .before .before .before in
+    let room = lists t .room (c .before .before .enum-told .given .1) in
+    (omega (arith, room, t .before .before .before .before .pre .1), omega (arith, room, t .answers-passing .kept .1 .1 .1 .1 .0))
 
 same-length-3 : tie.Need-same-length-3
 same-length-3 c = search needs
@@ -62,14 +64,8 @@ same-length-4 c = search needs
 
 returns-2 : tie.Need-returns-2
 returns-2 c =
-    let s = c .before .before .before .before .before .before .before .before .before .before .before .before .before in
-    let a = s .args in
-    let y = c .before .before .before .before .before .before .before .before .before .answers-passing in
-    let new = y .last .1 .1 .1 .1 .0 in
-    let told = three-back (λ u v w. AnswersAlone (a .table .now) (site u v) w (a .answers .now) new (y .result)) (a .x) (a .y) (a .k) (s .fits .x) (s .fits .y) (s .fits .k) (y .ensures) in
-    let p = c .before .before .put-answers in
-    granted-ran (a .number) (a .table .now) (a .x) (a .y) (a .k) (a .answers .now) new (y .result) told (a .out .now) (a .at) (p .last .0) (p .result)
-    (c .before .before .before .before .before .enum-told .given .1) (p .ensures)
+    let t = c .before .before .before .before .before .before .before .before .before in
+    granted-ran (lists t) (c .before .before .before .before .before .enum-told .given .1) (c .before .before .put-answers .ensures)
 
 pub run-query-spec : {M : Type 1} → statement M
 run-query-spec =

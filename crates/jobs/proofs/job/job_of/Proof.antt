@@ -53,6 +53,9 @@ withdraw-job-requires c κs = search needs
 query-job-requires : tie.Need-query-job-requires
 query-job-requires c κs = search needs
 
+card-job-requires : tie.Need-card-job-requires
+card-job-requires c κs = search needs
+
 returns-2 : tie.Need-returns-2
 returns-2 c = arm (c .before .before .before) _ _ (c .before .match .keys1) (c .enrol-job .ensures)
 
@@ -63,10 +66,13 @@ returns-4 : tie.Need-returns-4
 returns-4 c = arm (c .before .before .before) _ _ (c .before .match .keys3) (c .query-job .ensures)
 
 returns-5 : tie.Need-returns-5
-returns-5 c =
+returns-5 c = arm (c .before .before .before) _ _ (c .before .match .keys4) (c .card-job .ensures)
+
+returns-6 : tie.Need-returns-6
+returns-6 c =
     let d = c .before .before in
     let n = c .match .rest in
-    sym (lettered d ∙ letter-other (getD (d .before .field .result .now) 0 0) (drop 1 (fields (d .before .before .before))) (n .0 .0 .1) (n .0 .1) (n .1))
+    sym (lettered d ∙ letter-other (getD (d .before .field .result .now) 0 0) (drop 1 (fields (d .before .before .before))) (n .0 .0 .0 .1) (n .0 .0 .1) (n .0 .1) (n .1))
 
 pub job-of-spec : {M : Type 1} → statement M
 job-of-spec =
@@ -78,7 +84,9 @@ job-of-spec =
     enrol-job-requires
     withdraw-job-requires
     query-job-requires
+    card-job-requires
     returns-2
     returns-3
     returns-4
-    returns-5)
+    returns-5
+    returns-6)
