@@ -1,27 +1,27 @@
--- Whether a number is enrolled, slot by slot: the points of a slot have the numbers of its leaf entries. By the laws of tests of a list. Assumes nothing.
-use Prim.Native.Nat.{ℕ, _+_, _*_, _<_}
+-- Whether a number is enrolled: the points of a slot have the numbers of its leaf entries, and the search for a number goes through those. Assumes nothing.
+use Prim.Native.Nat.{ℕ, _+_, _*_}
 use native.Mathlib.Omega.{arith}
-use mathlib.Core.Path.{_≡_, refl, ap, _∙_}
-use mathlib.Core.Bool.{Bool, true, false, cond}
+use mathlib.Core.Path.{_≡_, refl, sym, ap, _∙_}
+use mathlib.Core.Bool.{Bool, true, false, cond, _||_}
 use mathlib.Core.List.{List, [], _∷_, map}
 use lib.Dec.{eqb}
-use lib.ListN.{getD}
+use borrow.Author.Tests.{eqb-true, eqb-false, eq-eqb, ne-eqb}
 use Rattle.words.specs.Word.{natOf}
-use Rattle.order.specs.Lists.{some, has, join}
+use Rattle.order.specs.Lists.{has, join}
 use Rattle.order.specs.Order.{upFrom}
-use Rattle.order.proofs.Order.{up-length, up-at}
-use Rattle.figures.specs.Figures.{SLOTS, ENTRY}
+use Rattle.order.proofs.Lists.{by-bool}
+use Rattle.figures.specs.Figures.{ENTRY}
+use Rattle.table.specs.declared.node.Entry.{Entry}
 use Rattle.table.specs.Words.{Words, word, partAt}
 use Rattle.table.specs.Page.{entryOf, filled, pageOf}
 use Rattle.table.specs.Slots.{slots, pageAt}
 use Rattle.table.specs.Stations.{isLeaf, stationOf, stationsAt, stations}
-use Rattle.rules.specs.Rules.{numbersAt}
+use Rattle.rules.specs.Rules.{leafEntries, numbersAt}
 use Rattle.rules.proofs.Joined.{map-join}
+use Rattle.filter.specs.Walk.{spotIn}
+use Rattle.naming.specs.declared.find.Whereabouts.the-variants.{At, Nowhere}
+use Rattle.naming.specs.Named.{whereIn, whereOf}
 use Rattle.refusals.specs.Refusals.{numbersOf}
-use Rattle.refusals.proofs.CallTests.{some-at, none-at, some-join}
-
-slot-at : (s : ℕ) → s < SLOTS → getD slots s 0 ≡ s
-slot-at s h = up-at 0 SLOTS s h ∙ (omega arith)
 
 map-cond : {A B C : Type 0} (f : A → C) (g : B → C) (b : Bool) (xs : List A) (ys : List B) → map f xs ≡ map g ys
     → map f (cond b xs []) ≡ map g (cond b ys [])
@@ -45,15 +45,37 @@ pub numbers-of : (ws : Words) → numbersOf ws ≡ join (numbersAt ws) slots
 unfolding stations
 numbers-of ws = map-join (λ p. p .number) (stationsAt ws) slots ∙ ap (λ f. join f slots) (λ i s. numbers-at ws s i)
 
-module _ (ws : Words) (n : ℕ) where
-  by-slots : has n (numbersOf ws) ≡ some (λ s. has n (numbersAt ws s)) slots
-  by-slots = ap (has n) (numbers-of ws) ∙ some-join (eqb n) (numbersAt ws) slots
+-- ---- the one search for a number tells whether it is enrolled
 
-  pub found-in : (s : ℕ) → s < SLOTS → has n (numbersAt ws s) ≡ true → has n (numbersOf ws) ≡ true
-  found-in s h e =
-      by-slots ∙ some-at (λ s. has n (numbersAt ws s)) slots 0 s (omega (arith, up-length 0 SLOTS)) (rw (slot-at s h) e)
+module _ (n : ℕ) where
+  pub where-none : (es : List Entry) → whereIn n es ≡ Nowhere → has n (map (λ e. e .reference) es) ≡ false
+  where-none [] w = refl
+  where-none (x ∷ xs) w =
+      let ih : whereIn n xs ≡ Nowhere → has n (map (λ e. e .reference) xs) ≡ false = where-none xs in
+      by-bool (λ b. eqb (x .reference) n ≡ b → cond b (At (spotIn x)) (whereIn n xs) ≡ Nowhere → (eqb n (x .reference) || has n (map (λ e. e .reference) xs)) ≡ false)
+      (eqb (x .reference) n)
+      (λ t e f. let z : _≡_ {A = ℕ} 0 1 = cc in absurd (omega arith))
+      (λ t e f. rw (ne-eqb n (x .reference) (λ s. eqb-false (x .reference) n e (sym s))) (ih f))
+      refl w
 
-  pub found-in-none : ((s : ℕ) → s < SLOTS → has n (numbersAt ws s) ≡ false) → has n (numbersOf ws) ≡ false
-  found-in-none f =
-      by-slots ∙ none-at (λ s. has n (numbersAt ws s)) slots 0
-      (λ s h. let k : s < SLOTS = omega (arith, up-length 0 SLOTS) in rw (slot-at s k) (f s k))
+  pub where-some : (es : List Entry) → (whereIn n es ≡ Nowhere → ⊥) → has n (map (λ e. e .reference) es) ≡ true
+  where-some [] w = absurd (w refl)
+  where-some (x ∷ xs) w =
+      let ih : (whereIn n xs ≡ Nowhere → ⊥) → has n (map (λ e. e .reference) xs) ≡ true = where-some xs in
+      by-bool (λ b. eqb (x .reference) n ≡ b → (cond b (At (spotIn x)) (whereIn n xs) ≡ Nowhere → ⊥) → (eqb n (x .reference) || has n (map (λ e. e .reference) xs)) ≡ true)
+      (eqb (x .reference) n)
+      (λ t e f. rw (eq-eqb n (x .reference) (sym (eqb-true (x .reference) n e))))
+      (λ t e f. rw (ne-eqb n (x .reference) (λ s. eqb-false (x .reference) n e (sym s))) (ih f))
+      refl w
+
+  module _ (ws : Words) where
+    by-leaves : numbersOf ws ≡ map (λ e. e .reference) (join (leafEntries ws) slots)
+    by-leaves = numbers-of ws ∙ sym (map-join (λ e. e .reference) (leafEntries ws) slots)
+
+    pub enrolled-not : whereOf ws n ≡ Nowhere → has n (numbersOf ws) ≡ false
+    unfolding whereOf
+    enrolled-not w = ap (has n) by-leaves ∙ where-none (join (leafEntries ws) slots) w
+
+    pub enrolled-is : (whereOf ws n ≡ Nowhere → ⊥) → has n (numbersOf ws) ≡ true
+    unfolding whereOf
+    enrolled-is w = ap (has n) by-leaves ∙ where-some (join (leafEntries ws) slots) w

@@ -1,30 +1,39 @@
+-- `carding::card_asked` meets its contract: the first line that holds is given. Assumes nothing.
+use mathlib.Core.Path.{sym, _∙_}
+use Rattle.refusals.specs.Refusals.{noSuchNumber, noSuchK}
+use Rattle.refusals.proofs.CallTests.{one-passed}
 use borrow.Author.Needs.{needs}
 use Rattle.refusals.proofs.carding.card_asked.Statement.{statement}
 use Rattle.refusals.proofs.carding.card_asked.Tie as tie
-use Rattle.refusals.proofs.carding.card_asked.Reads as reads
-use Rattle.refusals.proofs.carding.card_asked.Lts as lts
-use Rattle.refusals.proofs.refuse.no_such_k.Reads as no-such-k-reads
-use Rattle.refusals.proofs.refuse.no_such_number.Reads as no-such-number-reads
 
--- src/carding.rt:17:8
 no-such-number-requires : tie.Need-no-such-number-requires
 no-such-number-requires c κs = search needs
 
--- src/carding.rt:18:9
 returns : tie.Need-returns
-returns c = ?
+returns c =
+    let s = c .before .before in
+    rw (sym (one-passed noSuchNumber (s .args .number) (s .fits .number) (c .before .no-such-number .ensures)) ∙ c .if1 .taken)
 
--- src/carding.rt:20:8
 no-such-k-requires : tie.Need-no-such-k-requires
 no-such-k-requires c κs = search needs
 
--- src/carding.rt:21:9
 returns-2 : tie.Need-returns-2
-returns-2 c = ?
+returns-2 c =
+    let s = c .before .before .before .before in
+    let a = s .args in
+    rw (
+      sym (one-passed noSuchNumber (a .number) (s .fits .number) (c .before .before .before .no-such-number .ensures)) ∙ c .before .before .if1 .left,
+      sym (one-passed noSuchK (a .k) (s .fits .k) (c .before .no-such-k .ensures)) ∙ c .if2 .taken,
+    )
 
--- src/carding.rt:14:1
 returns-3 : tie.Need-returns-3
-returns-3 c = ?
+returns-3 c =
+    let s = c .before .before .before .before in
+    let a = s .args in
+    rw (
+      sym (one-passed noSuchNumber (a .number) (s .fits .number) (c .before .before .before .no-such-number .ensures)) ∙ c .before .before .if1 .left,
+      sym (one-passed noSuchK (a .k) (s .fits .k) (c .before .no-such-k .ensures)) ∙ c .if2 .left,
+    )
 
 pub card-asked-spec : {M : Type 1} → statement M
 card-asked-spec =

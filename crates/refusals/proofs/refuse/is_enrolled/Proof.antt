@@ -1,33 +1,45 @@
+-- `refuse::is_enrolled` meets its contract: a number is enrolled exactly if it stands somewhere. Assumes nothing.
+use mathlib.Core.Path.{_≡_, sym, ap, _∙_}
+use Rattle.words.proofs.Machine.{natural-passed}
+use Rattle.order.specs.Lists.{has}
+use Rattle.naming.proofs.Standing.{somewhere, nowhere}
+use Rattle.refusals.specs.Refusals.{numbersOf}
+use Rattle.refusals.proofs.CallNumbers.{enrolled-not, enrolled-is}
 use borrow.Author.Needs.{needs}
 use Rattle.refusals.proofs.refuse.is_enrolled.Statement.{statement}
 use Rattle.refusals.proofs.refuse.is_enrolled.Tie as tie
-use Rattle.refusals.proofs.refuse.is_enrolled.Reads as reads
-use Rattle.refusals.proofs.refuse.is_enrolled.Lts as lts
-use Rattle.naming.proofs.find.find.Reads as find-reads
-use Rattle.words.proofs.border.natural.Reads as natural-reads
 
--- src/refuse.rt:49:29
 natural-requires : tie.Need-natural-requires
 natural-requires c κs = search needs
 
--- src/refuse.rt:49:9
 find-requires : tie.Need-find-requires
 find-requires c κs = search needs
 
 enum-told : tie.Need-enum-told
 enum-told c = search needs
 
--- src/refuse.rt:51:9
 enum-told-2 : tie.Need-enum-told-2
 enum-told-2 c = search needs
 
--- src/refuse.rt:51:9
 returns : tie.Need-returns
-returns c = ?
+returns c =
+    let m = c .before in
+    let f = m .before in
+    let s = f .before .before in
+    let e = natural-passed (s .args .number) (s .fits .number) (f .before .natural .ensures) in
+    sym
+    (ap (λ n. has n (numbersOf (s .args .table .now))) (sym e)
+    ∙ enrolled-not (f .before .natural .result) (s .args .table .now) (sym (f .find .ensures) ∙ nowhere _ (m .match .keys2)))
 
--- src/refuse.rt:45:1
 returns-2 : tie.Need-returns-2
-returns-2 c = ?
+returns-2 c =
+    let m = c .before in
+    let f = m .before in
+    let s = f .before .before in
+    let e = natural-passed (s .args .number) (s .fits .number) (f .before .natural .ensures) in
+    sym
+    (ap (λ n. has n (numbersOf (s .args .table .now))) (sym e)
+    ∙ enrolled-is (f .before .natural .result) (s .args .table .now) (λ w. somewhere _ (m .match .keys1) (f .find .ensures ∙ w)))
 
 pub is-enrolled-spec : {M : Type 1} → statement M
 is-enrolled-spec =
