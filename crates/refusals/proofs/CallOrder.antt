@@ -31,11 +31,18 @@ refusals = 1 ∷ 2 ∷ 3 ∷ 4 ∷ 5 ∷ 6 ∷ 7 ∷ 8 ∷ 9 ∷ 10 ∷ 11 ∷ 1
 pub not-done : (g : Given) → OneOf refusals (tagOf the-type g) → g ≡ Done → ⊥
 not-done g m e = miss refusals 0 tt (subst (λ (h : Given). OneOf refusals (tagOf the-type h)) e m)
 
-pub by-two : (a b : Bool) {g : Given} → g ≡ cond a WrongLength (cond b NotWellFormed Done) → (g ≡ Done → ⊥)
-    → (h : Given) → cond a WrongLength (cond b NotWellFormed h) ≡ g
-by-two true b e n h = sym e
-by-two false true e n h = sym e
-by-two false false e n h = absurd (n e)
+-- of two lines: what they refuse is refused, whatever stands behind them
+module _ (x y : Given) where
+  pub by-two : (a b : Bool) {g : Given} → g ≡ cond a x (cond b y Done) → (g ≡ Done → ⊥) → (h : Given) → cond a x (cond b y h) ≡ g
+  by-two true b e n h = sym e
+  by-two false true e n h = sym e
+  by-two false false e n h = absurd (n e)
+
+  -- and is none of another number
+  pub not-of-two : (m : ℕ) → (numberGiven x ≡ m → ⊥) → (numberGiven y ≡ m → ⊥) → (0 ≡ m → ⊥) → (a b : Bool) {g : Given} → g ≡ cond a x (cond b y Done) → numberGiven g ≡ m → ⊥
+  not-of-two m p q r true b e f = p (ap numberGiven (sym e) ∙ f)
+  not-of-two m p q r false true e f = q (ap numberGiven (sym e) ∙ f)
+  not-of-two m p q r false false e f = r (ap numberGiven (sym e) ∙ f)
 
 two-pass : (a b : Bool) {g : Given} → g ≡ cond (not a) WrongLength (cond (not b) NotWellFormed Done) → g ≡ Done → (a ≡ true) × (b ≡ true)
 two-pass true true e d = (refl, refl)
@@ -45,11 +52,11 @@ two-pass true false e d = let z : _≡_ {A = ℕ} 2 0 = ap numberGiven (sym e �
 module _ (ws : Words) {g : Given} (e : g ≡ checkGives ws) where
   pub enrol-first : (n : ℤ) (p : Site) → (g ≡ Done → ⊥) → g ≡ enrolGives ws n p
   unfolding checkGives enrolGives
-  enrol-first n p d = sym (by-two (wrongLength ws) (malformed ws) e d _)
+  enrol-first n p d = sym (by-two WrongLength NotWellFormed (wrongLength ws) (malformed ws) e d _)
 
   pub withdraw-first : (n : ℤ) → (g ≡ Done → ⊥) → g ≡ withdrawGives ws n
   unfolding checkGives withdrawGives
-  withdraw-first n d = sym (by-two (wrongLength ws) (malformed ws) e d _)
+  withdraw-first n d = sym (by-two WrongLength NotWellFormed (wrongLength ws) (malformed ws) e d _)
 
   pub passes : g ≡ Done → (length ws ≡ LENGTH) × (wellFormed ws ≡ true)
   unfolding checkGives

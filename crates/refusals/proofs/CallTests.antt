@@ -1,20 +1,16 @@
--- What a call tests, one thing after the other: a word that it passes on, a number in or out of a range, one of a list that passes. By the order of numbers, and by recursion on the list. Assumes nothing.
-use Prim.Native.Nat.{ℕ, zero, suc, _≤_, _<_}
+-- What a call tests, one thing after the other: a word that it passes on, a number in or out of a range. By the order of numbers. Assumes nothing.
+use Prim.Native.Nat.{ℕ, _≤_, _<_}
 use native.Mathlib.Omega.{arith}
 use native.Mathlib.Decide.{decLe}
-use mathlib.Core.Path.{_≡_, refl, ap, subst, _∙_}
-use mathlib.Core.Bool.{Bool, true, false, not, _||_}
-use mathlib.Core.List.{List, [], _∷_, _++_, map}
+use mathlib.Core.Path.{_≡_, subst}
+use mathlib.Core.Bool.{true, not}
 use lib.Dec.{leb, ltb}
 use lib.IntN.{ℤ}
-use lib.ListN.{length, getD}
 use mir.Syntax.{w32}
 use mir.Val.{SFits, toZ, ofZ}
 use mir.ValLaws.{toZ-ofZ}
 use borrow.Author.Tests.{lt-leb, le-leb, lt-ltb, le-ltb}
-use Rattle.order.specs.Lists.{some, join}
 use Rattle.table.specs.Words.{between}
-use Rattle.rules.proofs.Tests.{or-second}
 
 -- ---- what a callee that was passed words says of them
 
@@ -54,31 +50,3 @@ module _ (a b : ℕ) {r n : ℕ} (e : r ≡ n) where
       past : Dec (n ≤ b) → ltb b n ≡ not (leb n b)
       past (yes k) = rw (le-ltb b n k, le-leb n b k)
       past (no k) = rw (lt-ltb b n (omega arith), lt-leb n b (omega arith))
-
--- ---- one of a list
-
-or-or : (a b c : Bool) → (a || (b || c)) ≡ ((a || b) || c)
-or-or true b c = refl
-or-or false b c = refl
-
-module _ {A : Type 0} (P : A → Bool) where
-  pub some-at : (xs : List A) (d : A) (i : ℕ) → i < length xs → P (getD xs i d) ≡ true → some P xs ≡ true
-  some-at [] d i h e = absurd (omega arith)
-  some-at (x ∷ xs) d zero h e = rw e
-  some-at (x ∷ xs) d (suc i) h e = or-second (P x) (some-at xs d i (omega arith) e)
-
-  pub none-at : (xs : List A) (d : A) → ((i : ℕ) → i < length xs → P (getD xs i d) ≡ false) → some P xs ≡ false
-  none-at [] d h = refl
-  none-at (x ∷ xs) d h = rw (h 0 (omega arith)) (none-at xs d (λ i l. h (suc i) (omega arith)))
-
-  pub some-append : (xs ys : List A) → some P (xs ++ ys) ≡ (some P xs || some P ys)
-  some-append [] ys = refl
-  some-append (x ∷ xs) ys = rw (some-append xs ys) (or-or (P x) (some P xs) (some P ys))
-
-pub some-map : {A B : Type 0} (P : B → Bool) (f : A → B) (xs : List A) → some P (map f xs) ≡ some (λ x. P (f x)) xs
-some-map P f [] = refl
-some-map P f (x ∷ xs) = ap (λ b. P (f x) || b) (some-map P f xs)
-
-pub some-join : {A B : Type 0} (P : B → Bool) (f : A → List B) (xs : List A) → some P (join f xs) ≡ some (λ x. some P (f x)) xs
-some-join P f [] = refl
-some-join P f (x ∷ xs) = some-append P (f x) (join f xs) ∙ ap (λ b. some P (f x) || b) (some-join P f xs)

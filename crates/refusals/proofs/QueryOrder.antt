@@ -98,4 +98,4 @@ module _ (ws : Words) (q : Site) (k : ℤ) (room : ℕ) where
   -- what the check refuses, the query refuses
   pub query-first : {g : Given} → g ≡ checkGives ws → (g ≡ Done → ⊥) → (places : ℕ) → g ≡ queryGives ws q k room places
   unfolding checkGives queryGives
-  query-first e d places = sym (by-two (wrongLength ws) (malformed ws) e d _)
+  query-first e d places = sym (by-two WrongLength NotWellFormed (wrongLength ws) (malformed ws) e d _)
