@@ -1,4 +1,4 @@
--- The mission's three demands. The first by the cases of what a call gives, the second by the walk's theorem, the third call by call. Assumes nothing.
+-- The mission's three demands, and what a granted card lists. The first by the cases of what a call gives, the second by the walk's theorem, the third call by call. Assumes nothing.
 use Prim.Native.Nat.{ℕ, suc}
 use mathlib.Core.Path.{_≡_, refl, sym, ap, _∙_}
 use mathlib.Core.Logic.{_⊎_, inl, inr, ⊎-elim}
@@ -22,13 +22,15 @@ use Rattle.joining.specs.Enrol.{enrolled}
 use Rattle.leaving.specs.Withdraw.{withdrawn}
 use Rattle.filter.specs.Query.{Counts, countsOf, recordsFound, answersFound, laidOver}
 use Rattle.filter.proofs.Rising.{perm-filter}
-use Rattle.refusals.specs.Refusals.{enrolLines, enrolGives, withdrawLines, withdrawGives, queryLines, queryGives}
+use Rattle.card.specs.Card.{namesFor}
+use Rattle.refusals.specs.Refusals.{enrolLines, enrolGives, withdrawLines, withdrawGives, queryLines, queryGives, cardLines, cardGives}
 use Rattle.refusals.specs.Cases.{ifDone, ifShortList}
-use Rattle.desk.specs.Calls.{pointEntry, afterEnrol, afterWithdraw, afterQuery, zeroCounts, onlyN}
-use Rattle.desk.specs.Demands.{First, Exactly, Demand1, Demand2, Call, enrol, withdraw, look, tableAfter, pointsAfter, pointsAfterAll, Demand3, AnyCalls}
+use Rattle.desk.specs.Calls.{pointEntry, afterEnrol, afterWithdraw, afterQuery, zeroCounts, onlyN, afterCard}
+use Rattle.desk.specs.Demands.{First, Exactly, Demand1, Demand2, GrantedCards, Call, enrol, withdraw, look, tableAfter, pointsAfter, pointsAfterAll, Demand3, AnyCalls}
 use Rattle.refusals.proofs.Given.{if-refused, if-not-few, by-done}
-use Rattle.desk.proofs.Granted.{full-points}
-use Rattle.desk.proofs.Passing.{passing-points, passing-few, passing-nodes, passing-levels}
+use Rattle.desk.proofs.Granted.{full-points, card-granted}
+use Rattle.desk.proofs.CallCard.{number-station, names-of-it}
+use Rattle.desk.proofs.Passing.{passing-points, passing-few, passing-once, passing-nodes, passing-levels}
 use Rattle.desk.proofs.Kept.{call-kept}
 use Rattle.desk.proofs.Finds.{granted-answers}
 
@@ -84,13 +86,14 @@ nonzero {g} {n} e d =
     absurd (omega arith)
 
 pub demand1 : Demand1
-unfolding checkGives enrolGives withdrawGives queryGives afterEnrol afterWithdraw afterQuery
+unfolding checkGives enrolGives withdrawGives queryGives cardGives afterEnrol afterWithdraw afterQuery afterCard
 demand1 = record {
   check = λ ws. exactly (checkLines ws) (nonzero refl, (nonzero refl, tt));
   enrol = λ ws n p. exactly (enrolLines ws n p) (nonzero refl, (nonzero refl, (nonzero refl, (nonzero refl, (nonzero refl, (nonzero refl, tt))))));
   withdraw = λ ws n. exactly (withdrawLines ws n) (nonzero refl, (nonzero refl, (nonzero refl, (nonzero refl, tt))));
   query = λ ws q k cs out.
       exactly (queryLines ws q k (length cs) (length out)) (nonzero refl, (nonzero refl, (nonzero refl, (nonzero refl, (nonzero refl, (nonzero refl, tt))))));
+  card = λ ws n k list. exactly (cardLines ws n k (length list)) (nonzero refl, (nonzero refl, (nonzero refl, (nonzero refl, (nonzero refl, (nonzero refl, tt))))));
   enrolRefused = λ ws n p no. if-refused (enrolGives ws n p) no (enrolled ws (pointEntry n p)) ws;
   withdrawRefused = λ ws n no. if-refused (withdrawGives ws n) no (withdrawn ws (natOf n)) ws;
   queryRefused = λ ws q k cs out no more.
@@ -107,6 +110,17 @@ demand1 = record {
         ap (λ g. ifDone g counts (ifShortList g (onlyN counts) zeroCounts)) ten,
         ap (λ g. ifDone g records (ifShortList g records cs)) ten,
         ap (λ g. ifDone g (laidOver (answersFound ws q (natOf k)) out) out) ten,
+      );
+  cardRefused = λ ws n k list no more.
+      let g = cardGives ws n k (length list) in
+      let card = namesFor (stations ws) (natOf n) (natOf k) in (
+        if-refused g no (length card) (ifShortList g (length card) 0) ∙ if-not-few g more (length card) 0,
+        if-refused g no (laidOver card list) list,
+      );
+  cardShort = λ ws n k list ten.
+      let card = namesFor (stations ws) (natOf n) (natOf k) in (
+        ap (λ g. ifDone g (length card) (ifShortList g (length card) 0)) ten,
+        ap (λ g. ifDone g (laidOver card list) list) ten,
       );
 }
 
@@ -126,6 +140,20 @@ demand2 ws words q k cs out done =
       candidates = ap (λ g. ifDone g records (ifShortList g records cs)) done;
       m = ap (λ (x : Counts). x .m) c;
       o = ap (λ (x : Counts). x .o) c;
+    }
+
+-- ---- the card
+
+pub granted-cards : GrantedCards
+unfolding afterCard
+granted-cards ws words n k list done =
+    let ready = card-granted ws n k (length list) done .0 in
+    let once = passing-once (record { long = ready .long; words = words; rules = ready .rules }) in
+    let card = namesFor (stations ws) (natOf n) (natOf k) in
+    record {
+      enrolled = number-station (natOf n) (stations ws) (ready .enrolled);
+      list = λ p m e. ap (λ g. ifDone g (laidOver card list) list) done ∙ ap (λ l. laidOver l list) (names-of-it (stations ws) once (natOf n) (natOf k) p m e);
+      names = λ p m e. ap (λ g. ifDone g (length card) (ifShortList g (length card) 0)) done ∙ ap length (names-of-it (stations ws) once (natOf n) (natOf k) p m e);
     }
 
 -- ---- demand 3

@@ -46,7 +46,7 @@ pub record Within (a b n : ℕ) : Type 0 where
   pub least : a ≤ n
   pub most : n ≤ b
 
-within : (a b n : ℕ) → not (between a b n) ≡ false → Within a b n
+pub within : (a b n : ℕ) → not (between a b n) ≡ false → Within a b n
 within a b n e =
     let h = between-true a b n (not-false (between a b n) e) in
     record { least = h .0; most = h .1 }

@@ -7,5 +7,6 @@ pub mod CallAfter
 pub mod CallQuery
 pub mod CallList
 pub mod CallAlone
+pub mod CallCard
 pub mod Once
 pub mod TwoLists

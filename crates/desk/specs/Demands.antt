@@ -10,7 +10,7 @@ use lib.ListN.{length}
 use Rattle.words.specs.Word.{IsWord, natOf}
 use Rattle.grid.specs.Site.{Site}
 use Rattle.order.specs.Order.{Perm}
-use Rattle.order.specs.Lists.{count, filter, All}
+use Rattle.order.specs.Lists.{count, filter, Mem, All}
 use Rattle.table.specs.declared.given.Given.{Given}
 use Rattle.table.specs.declared.given.Given.the-variants.{Done, Full, ShortList}
 use Rattle.table.specs.Given.{Line}
@@ -23,11 +23,12 @@ use Rattle.filter.specs.Meaning.{answer}
 use Rattle.audit.specs.Check.{checkLines, checkGives}
 use Rattle.record.specs.declared.Candidate.{Candidate}
 use Rattle.filter.specs.Query.{found, recordOf, recordsFound, countsOf, laidOver}
-use Rattle.refusals.specs.Refusals.{enrolLines, enrolGives, withdrawLines, withdrawGives, queryLines}
+use Rattle.card.specs.Card.{namesOf, namesFor}
+use Rattle.refusals.specs.Refusals.{enrolLines, enrolGives, withdrawLines, withdrawGives, queryLines, cardLines}
 use Rattle.refusals.specs.Cases.{ifDone}
-use Rattle.desk.specs.Calls.{afterEnrol, afterWithdraw, Queried, afterQuery, zeroCounts, onlyN}
+use Rattle.desk.specs.Calls.{afterEnrol, afterWithdraw, Queried, afterQuery, zeroCounts, onlyN, Listed, afterCard}
 
--- ---- demand 1: every call gives the number of the first line of 01 that holds, and a refusal changes nothing, but for 10 of the query
+-- ---- demand 1: every call gives the number of the first line of 01 and 02 that holds, and a refusal changes nothing, but for 10 of the query and of the card
 
 -- a line with this answer holds, and no earlier line does
 abbrev pub First : List Line → Given → Type 0
@@ -48,6 +49,7 @@ pub record Demand1 : Type 0 where
   pub withdraw : (ws : Words) (n : ℤ) → Exactly (withdrawLines ws n) (withdrawGives ws n)
   pub query : (ws : Words) (q : Site) (k : ℤ) (cs : List Candidate) (out : List ℕ)
       → Exactly (queryLines ws q k (length cs) (length out)) (afterQuery ws q k cs out .given)
+  pub card : (ws : Words) (n k : ℤ) (list : List ℕ) → Exactly (cardLines ws n k (length list)) (afterCard ws n k list .given)
   -- a refused enrolment or withdrawal leaves the table as it was
   pub enrolRefused : (ws : Words) (n : ℤ) (p : Site) → (enrolGives ws n p ≡ Done → ⊥) → afterEnrol ws n p ≡ ws
   pub withdrawRefused : (ws : Words) (n : ℤ) → (withdrawGives ws n ≡ Done → ⊥) → afterWithdraw ws n ≡ ws
@@ -60,6 +62,12 @@ pub record Demand1 : Type 0 where
       → (afterQuery ws q k cs out .counts ≡ onlyN (countsOf ws q (natOf k)))
       × (afterQuery ws q k cs out .candidates ≡ laidOver (recordsFound ws q (natOf k)) cs)
       × (afterQuery ws q k cs out .answers ≡ out)
+  -- a refused card: no names, and the list as it was
+  pub cardRefused : (ws : Words) (n k : ℤ) (list : List ℕ) → (afterCard ws n k list .given ≡ Done → ⊥) → (afterCard ws n k list .given ≡ ShortList → ⊥)
+      → (afterCard ws n k list .names ≡ 0) × (afterCard ws n k list .list ≡ list)
+  -- but for 10: it gives the card's length, and leaves the list
+  pub cardShort : (ws : Words) (n k : ℤ) (list : List ℕ) → afterCard ws n k list .given ≡ ShortList
+      → (afterCard ws n k list .names ≡ length (namesFor (stations ws) (natOf n) (natOf k))) × (afterCard ws n k list .list ≡ list)
 
 -- ---- demand 2: a granted query lists, rising, exactly the stations that have fewer than k others nearer than the place; its candidates and its count
 -- of opened nodes are those of 01's filter walk
@@ -77,12 +85,23 @@ abbrev pub Demand2 : Type 0
 Demand2 = (ws : Words) → All IsWord ws → (q : Site) (k : ℤ) (cs : List Candidate) (out : List ℕ)
     → afterQuery ws q k cs out .given ≡ Done → Granted ws q (natOf k) cs out (afterQuery ws q k cs out)
 
+-- ---- 02 §1: a granted card lists the card of the station with that number, which is enrolled
+
+pub record CardGranted (ws : Words) (n : ℤ) (k : ℕ) (old : List ℕ) (r : Listed) : Type 0 where
+  pub enrolled : (p : Station) × Mem p (stations ws) × (p .number ≡ natOf n)
+  pub list : (p : Station) → Mem p (stations ws) → p .number ≡ natOf n → r .list ≡ laidOver (namesOf (stations ws) p k) old
+  pub names : (p : Station) → Mem p (stations ws) → p .number ≡ natOf n → r .names ≡ length (namesOf (stations ws) p k)
+
+abbrev pub GrantedCards : Type 0
+GrantedCards = (ws : Words) → All IsWord ws → (n k : ℤ) (list : List ℕ) → afterCard ws n k list .given ≡ Done
+    → CardGranted ws n (natOf k) list (afterCard ws n k list)
+
 -- ---- demand 3: what the table is and holds after any calls
 
 pub data Call : Type 0 where
   enrol : ℤ → Site → Call
   withdraw : ℤ → Call
-  -- a check or a query
+  -- a check, a query or a card
   look : Call
 
 abbrev pub tableAfter : Words → Call → Words

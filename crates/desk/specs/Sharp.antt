@@ -9,10 +9,12 @@ use Rattle.table.specs.Words.{Words}
 use Rattle.audit.specs.Check.{checkGives}
 use Rattle.record.specs.declared.Candidate.{Candidate}
 use Rattle.refusals.specs.declared.answered.Answered.{Answered}
+use Rattle.refusals.specs.declared.carding.Carded.{Carded}
 use Rattle.refusals.specs.Refusals.{enrolGives, withdrawGives}
 use Rattle.desk.specs.Calls.{afterEnrol, afterWithdraw}
 use Rattle.desk.specs.Lent.{Answers}
 use Rattle.desk.specs.Alone.{AnswersAlone}
+use Rattle.desk.specs.Carding.{Cards}
 
 -- what the promise of a change says of the number given and of the table after it
 pub record Changed (gives : Given) (words : Words) (r : Given) (after : Words) : Type 0 where
@@ -31,3 +33,5 @@ pub record OneOutcome : Type 0 where
   -- the same where the candidate list is the call's own
   pub answers : (ws : Words) (q : Site) (k : ℤ) (old new new′ : List ℕ) (r r′ : Answered)
       → AnswersAlone ws q k old new r → AnswersAlone ws q k old new′ r′ → (new ≡ new′) × (r ≡ r′)
+  -- every number of the list, and what is handed back
+  pub card : (ws : Words) (n k : ℤ) (old new new′ : List ℕ) (r r′ : Carded) → Cards ws n k old new r → Cards ws n k old new′ r′ → (new ≡ new′) × (r ≡ r′)

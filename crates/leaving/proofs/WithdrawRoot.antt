@@ -30,7 +30,7 @@ use Rattle.leaving.proofs.WithdrawCut.{first-split}
 use Rattle.change.proofs.Planting.{planted-inside}
 use Rattle.leaving.proofs.Withdrawn.{found, root-lowerable}
 
-has-mem : (n : ℕ) (ns : List ℕ) → has n ns ≡ true → Mem n ns
+pub has-mem : (n : ℕ) (ns : List ℕ) → has n ns ≡ true → Mem n ns
 has-mem n ns h =
     let p = first-split (eqb n) ns h in
     subst (Mem n) (sym (p .3)) (Memᴰ·append-right (p .0) (List·Memᴰ·head (eqb-true n (p .1) (p .5))))
