@@ -6,12 +6,15 @@ ghost use Rattle.audit.specs.Check.{checkGives};
 ghost use Rattle.refusals.specs.Refusals.{site, enrolGives, withdrawGives};
 ghost use Rattle.desk.specs.Calls.{afterEnrol, afterWithdraw};
 ghost use Rattle.export.specs.Told.{countsLaid, Told};
+ghost use Rattle.export.specs.Cards.{namesLaid, ToldCard, cardsAfter};
 ghost use Rattle.export.specs.Sites.{sitesAfter};
 
+mod cards;
 mod sites;
 
 use record::Candidate;
 use refusals::answered::Answered;
+use refusals::carding::Carded;
 use table::given::Given;
 use table::given::number_given;
 
@@ -97,5 +100,55 @@ pub extern "C" fn ullagreth_sites(
         return number_given(given);
     };
     sites::count_all(table, xs, ys, k, counts);
+    number_given(given)
+}
+
+// The number of what a card hands back. How many names it has goes to the front of the lent row; a row of no places stays as it was.
+fn told_card(c: Carded, names: &mut [u64]) -> u8
+    ensures given { λ r. ⌜ r ≡ numberGiven (c .given) ⌝ }
+    ensures names { λ _. ⌜ now (names .exit) ≡ namesLaid (c .names) (now (names .entry)) ⌝ }
+{
+    let given = c.given;
+    if names.len() < 1 {
+        return number_given(given);
+    }
+    names[0] = c.names as u64;
+    number_given(given)
+}
+
+// The card of the station with a number: its names to the list, in card order, and how many they are to the row.
+#[no_mangle]
+pub extern "C" fn ullagreth_card(
+    table: &[i32],
+    number: i32,
+    k: i32,
+    list: &mut [u32],
+    names: &mut [u64],
+) -> u8
+    ensures { λ r.
+        ⌜
+        ToldCard (now (table .entry)) number k (now (list .entry)) (now (list .exit)) (now (names .entry)) (now (names .exit)) r
+        ⌝ }
+{
+    let c = desk::cards::card(table, number, k, list);
+    told_card(c, names)
+}
+
+// The cards of many stations, for one check of the table: number i has the i-th stretch of sixteen places.
+#[no_mangle]
+pub extern "C" fn ullagreth_cards(
+    table: &[i32],
+    numbers: &[i32],
+    k: i32,
+    cards: &mut [u32],
+) -> u8
+    ensures given { λ r. ⌜ r ≡ numberGiven (checkGives (now (table .entry))) ⌝ }
+    ensures cards { λ _. ⌜ now (cards .exit) ≡ cardsAfter (now (table .entry)) k (now (numbers .entry)) (now (cards .entry)) ⌝ }
+{
+    let given = desk::check::check(table);
+    let Given::Done = given else {
+        return number_given(given);
+    };
+    cards::put_cards(table, numbers, k, cards);
     number_given(given)
 }
