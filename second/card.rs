@@ -5,15 +5,15 @@ use crate::table::square;
 /// A holder: number, x, y.
 pub type Holder = (i32, i64, i64);
 
-/// The most names on a card.
-pub const MOST_NAMES: usize = 16;
+/// The greatest k, and so the most names on a card.
+pub const MOST_K: usize = 16;
 
 /// The names on a card, or the number that it is refused with: 3, 5, 8.
 pub fn card(all: &[Holder], number: i32, k: i32) -> Result<Vec<i32>, i32> {
     if !(1..=9999).contains(&number) {
         return Err(3);
     }
-    if !(1..=16).contains(&k) {
+    if !(1..=MOST_K as i32).contains(&k) {
         return Err(5);
     }
     let p = all.iter().find(|p| p.0 == number).ok_or(8)?;
@@ -30,7 +30,7 @@ fn sorted(all: &[Holder], p: &Holder, k: usize) -> Vec<i32> {
 /// The same names by a scan: each other is held to the worst of the k best so far, and put in its place among them. How many there are.
 /// No tree and no row of all others; it is what the card's speed is measured against.
 pub fn scanned(all: &[Holder], p: &Holder, k: usize, names: &mut [u32]) -> usize {
-    let mut best = [(i64::MAX, i32::MAX); MOST_NAMES];
+    let mut best = [(i64::MAX, i32::MAX); MOST_K];
     let mut found = 0;
     let mut worst = best[k - 1];
     for c in all {

@@ -65,7 +65,7 @@ fn selftest() {
                 queries += 1;
                 let all = t.stations();
                 if let Some(p) = all.get(r.below(all.len() as u64 + 1) as usize) {
-                    let mut names = [0; card::MOST_NAMES];
+                    let mut names = [0; card::MOST_K];
                     let n = card::scanned(&all, p, k, &mut names);
                     assert_eq!(Ok(names[..n].iter().map(|&a| a as i32).collect()), card::card(&all, p.0, k as i32));
                     cards += 1;

@@ -37,7 +37,7 @@ fn mixed(r: &mut Random, damaged: u64, habit: u64) -> Vec<u8> {
     let want = r.between(1, 24_000) as usize;
     let growing = r.between(1, 4) as u64;
     // Few numbers make a small table, and more cards of those enrolled.
-    let highest = *pick(r, &[12, 100, 700]);
+    let highest = *r.pick(&[12, 100, 700]);
     while out.len() < want {
         let mut line = good_line(r, habit, 1 + r.0 % 6, growing, highest);
         if r.below(100) < damaged {
@@ -53,11 +53,11 @@ fn mixed(r: &mut Random, damaged: u64, habit: u64) -> Vec<u8> {
 fn good_line(r: &mut Random, habit: u64, asking: u64, growing: u64, highest: i64) -> Vec<u8> {
     let (mut x, y) = r.place(habit);
     if r.below(30) == 0 {
-        x = *pick(r, &[1_000_000, 1_000_001, -1_000_000, -1_000_001, 9_999_999]);
+        x = *r.pick(&[1_000_000, 1_000_001, -1_000_000, -1_000_001, 9_999_999]);
     }
     let mut number = r.between(1, highest);
     if r.below(30) == 0 {
-        number = *pick(r, &[0, 1, 9_999, 10_000, -5, 9_999_999]);
+        number = *r.pick(&[0, 1, 9_999, 10_000, -5, 9_999_999]);
     }
     if r.below(10) < asking {
         let k = if r.below(15) == 0 { r.between(-1, 18) } else { r.between(1, 16) };
@@ -75,7 +75,7 @@ fn good_line(r: &mut Random, habit: u64, asking: u64, growing: u64, highest: i64
 
 /// A line for a card with something wrong: its fields, its number or its k; most are misshapen.
 fn odd_card(r: &mut Random, number: i64, k: i64) -> String {
-    match r.below(12) {
+    match r.below(13) {
         0 => format!("K\t{number}\t\t"),
         1 => format!("K\t{number}\t{k}\t"),
         2 => format!("K\t\t{k}"),
@@ -84,23 +84,20 @@ fn odd_card(r: &mut Random, number: i64, k: i64) -> String {
         5 => format!("K\t-{number}\t{k}"),
         6 => format!("K\t{number}\t-{k}"),
         7 => format!("K\t0{number}"),
-        8 => format!("K\t-0\t"),
+        8 => "K\t-0\t".into(),
         9 => format!("k\t{number}\t{k}"),
         10 => format!("K\t{}", r.between(-9_999_999, 9_999_999)),
+        11 => format!("K\t{}\t{}", r.pick(&[0, 10_000, -1]), r.pick(&[0, 17, -1])),
         _ => "K".into(),
     }
-}
-
-fn pick<'a, T>(r: &mut Random, from: &'a [T]) -> &'a T {
-    &from[r.below(from.len() as u64) as usize]
 }
 
 /// Bytes that damage a line without leaving its grammar far behind, and some that do.
 fn some_byte(r: &mut Random) -> u8 {
     match r.below(4) {
-        0 => *pick(r, b"EWQKewqk?\t\t-+0123456789"),
-        1 => *pick(r, b"\t\t\t-0 \r\0"),
-        2 => *pick(r, b"0123456789"),
+        0 => *r.pick(b"EWQKewqk?\t\t-+0123456789"),
+        1 => *r.pick(b"\t\t\t-0 \r\0"),
+        2 => *r.pick(b"0123456789"),
         _ => r.next() as u8,
     }
 }
@@ -115,7 +112,7 @@ fn damage(r: &mut Random, line: &mut Vec<u8>) {
             }
             2 if at < line.len() => line[at] = some_byte(r),
             3 => line.truncate(at),
-            4 => line.push(*pick(r, b"\t\t0 \r\0x")),
+            4 => line.push(*r.pick(b"\t\t0 \r\0x")),
             _ => line[..].reverse(),
         }
     }
@@ -131,7 +128,7 @@ fn noise(r: &mut Random) -> Vec<u8> {
 fn at_one_place(r: &mut Random) -> Vec<u8> {
     let mut out = Vec::new();
     let (x, y) = r.place(0);
-    let stations = *pick(r, &[9, 100, 499, 500, 501]);
+    let stations = *r.pick(&[9, 100, 499, 500, 501]);
     for n in 0..stations {
         out.extend(format!("E\t{}\t{x}\t{y}\n", 9999 - 7 * n).into_bytes());
     }
@@ -147,7 +144,7 @@ fn at_one_place(r: &mut Random) -> Vec<u8> {
 
 /// Up to five bytes: the empty sheet, an empty line, a letter.
 fn short(r: &mut Random) -> Vec<u8> {
-    (0..r.below(6)).map(|_| *pick(r, b"\n\n\tEWQK1\r\0")).collect()
+    (0..r.below(6)).map(|_| *r.pick(b"\n\n\tEWQK1\r\0")).collect()
 }
 
 /// A sheet of exactly so many bytes.
@@ -164,8 +161,8 @@ fn of_length(r: &mut Random, length: usize) -> Vec<u8> {
 /// A few good lines, and among them one of thousands of bytes.
 fn long_line(r: &mut Random) -> Vec<u8> {
     let mut out = mixed(r, 10, 1);
-    let b = *pick(r, b"\t0-EQ \xff");
-    out.extend(*pick(r, &[&b"Q\t0\t0\t"[..], b"K\t1\t", b"K\t"]));
+    let b = *r.pick(b"\t0-EQ \xff");
+    out.extend(*r.pick(&[&b"Q\t0\t0\t"[..], b"K\t1\t", b"K\t"]));
     out.extend(vec![b; r.between(1, 30_000) as usize]);
     out.extend(b"\nQ\t0\t0\t3\nK\t1\t3\n");
     out
