@@ -32,6 +32,12 @@ impl View<'_> {
     }
 }
 
+/// Every point of a well-formed table, read off its words: number, x, y.
+pub fn stations(w: &[i32]) -> Vec<(i32, i64, i64)> {
+    let v = View(w);
+    (0..SLOTS).filter(|&s| v.level(s) == 0).flat_map(|s| v.entries(s)).map(|e| (e[0], i64::from(e[1]), i64::from(e[2]))).collect()
+}
+
 /// The lowest-numbered rule that is broken; 0 for a wrong length.
 pub fn broken(w: &[i32]) -> Option<u32> {
     if w.len() != LENGTH {

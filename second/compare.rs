@@ -1,7 +1,9 @@
 //! Compares the proved library with the second implementation, word by word.
-//! `compare check|changes|queries SEEDS` runs that many seeds and says how many calls agreed; `compare bench` measures.
+//! `compare check|changes|queries|cards SEEDS` runs that many seeds and says how many calls agreed; `compare bench` measures.
 //! `compare sheets SEEDS [PROGRAM]` runs the built program on random whole sheets.
 
+mod card;
+mod cards;
 mod check;
 mod flat;
 mod library;
@@ -27,10 +29,11 @@ fn main() {
         Some("check") => checks(seeds),
         Some("changes") => changes(seeds),
         Some("queries") => queries(seeds),
+        Some("cards") => cards::cards(seeds),
         Some("sheets") => programs::sheets(seeds, args.get(3).map_or("target/bin/ullagreth", String::as_str)),
         Some("bench") => bench(),
         _ => {
-            eprintln!("usage: compare check|changes|queries SEEDS, compare sheets SEEDS [PROGRAM], or compare bench");
+            eprintln!("usage: compare check|changes|queries|cards SEEDS, compare sheets SEEDS [PROGRAM], or compare bench");
             std::process::exit(2);
         }
     }
@@ -47,6 +50,24 @@ fn random_table(r: &mut Random, habit: u64, most: i64) -> Table {
     t
 }
 
+/// A table with a word or two changed at random.
+fn damaged(r: &mut Random, whole: &[i32]) -> Vec<i32> {
+    let mut w = whole.to_vec();
+    for _ in 0..r.between(1, 2) {
+        // Mostly near the used slots, where a change is seldom harmless.
+        let at = if r.below(8) == 0 { r.below(w.len() as u64) } else { r.below(2 + 42 * 40) } as usize;
+        w[at] = match r.below(6) {
+            0 => w[at].wrapping_add(1),
+            1 => w[at].wrapping_sub(1),
+            2 => -1,
+            3 => 0,
+            4 => r.between(-3, 300) as i32,
+            _ => r.next() as i32,
+        };
+    }
+    w
+}
+
 // ---- the check: random tables, whole, with a few random words changed, or of another length
 
 fn checks(seeds: u64) {
@@ -57,19 +78,7 @@ fn checks(seeds: u64) {
         let whole = t.words();
         assert_eq!(library::check(&whole), 0, "seed {seed}");
         for _ in 0..200 {
-            let mut w = whole.clone();
-            for _ in 0..r.between(1, 2) {
-                // Mostly near the used slots, where a change is seldom harmless.
-                let at = if r.below(8) == 0 { r.below(w.len() as u64) } else { r.below(2 + 42 * 40) } as usize;
-                w[at] = match r.below(6) {
-                    0 => w[at].wrapping_add(1),
-                    1 => w[at].wrapping_sub(1),
-                    2 => -1,
-                    3 => 0,
-                    4 => r.between(-3, 300) as i32,
-                    _ => r.next() as i32,
-                };
-            }
+            let mut w = damaged(&mut r, &whole);
             if r.below(20) == 0 {
                 w.truncate(r.below(w.len() as u64) as usize);
             }
@@ -246,6 +255,7 @@ fn bench() {
     println!("check of a full table: {:.1} microseconds", 1e6 * s / turns as f64);
 
     bench_sites(&mut r);
+    cards::bench();
 }
 
 /// One call for all sites on the library's side, and on the second's a query for each; every n must agree.

@@ -1,5 +1,5 @@
 //! The edge cases of the job sheet: the input of the test program `edges`, and what it must print.
-//! For each line of `BY_HAND` what it must print was written by hand from document 01, before any program ran it, with the reason beside it;
+//! For each line of `BY_HAND` what it must print was written by hand from documents 01 and 02, before any program ran it, with the reason beside it;
 //! `expected` then asks that the second implementation says the same. The lines after those (500 points and more) are read off the second
 //! implementation alone, but for what each gives back, which is by hand too.
 
@@ -14,12 +14,20 @@ const BY_HAND: &[Line] = &[
     (b"Q\t0\t0\t1", "Q\t0\t0\t0\t0", "the empty table gives 0, 0, 0"),
     (b"Q\t0\t0\t17", "Q\t5", "k is checked on the empty table too"),
     (b"W\t1", "W\t8", "not enrolled"),
+    (b"K\t1\t1", "K\t8", "not enrolled"),
+    (b"K\t1\t17", "K\t5", "5 comes before 8"),
+    (b"K\t0\t17", "K\t3", "3 comes before 5"),
     // ---- point numbers, coordinates, and the order of the checks
     (b"E\t0\t0\t0", "E\t3", "number 0"),
     (b"E\t10000\t0\t0", "E\t3", "number 10,000"),
     (b"E\t-1\t0\t0", "E\t3", "number -1"),
     (b"E\t1\t0\t0", "E\t0", "number 1"),
+    (b"K\t1\t1", "K\t0\t0", "one station: its card is empty"),
+    (b"K\t1\t16", "K\t0\t0", "with any k"),
     (b"E\t9999\t1000000\t1000000", "E\t0", "number 9,999; coordinates 1,000,000"),
+    (b"K\t1\t1", "K\t0\t1\t9999", "two stations: each names the other"),
+    (b"K\t9999\t1", "K\t0\t1\t1", "and the other way"),
+    (b"K\t9999\t2", "K\t0\t1\t1", "k above the others: fewer names"),
     (b"E\t2\t1000001\t0", "E\t4", "x 1,000,001"),
     (b"E\t2\t0\t1000001", "E\t4", "y 1,000,001"),
     (b"E\t2\t-1000001\t0", "E\t4", "x -1,000,001"),
@@ -45,6 +53,54 @@ const BY_HAND: &[Line] = &[
     (b"Q\t1000001\t0\t17", "Q\t4", "4 comes before 5"),
     (b"Q\t1000000\t-1000000\t1", "Q\t0\t1\t1\t1\t1", "squares to q: 1 has 2e12, 2 and 9999 have 4e12; 1 (2e12 from each) drops both"),
     (b"Q\t-1000000\t1000000\t2", "Q\t0\t3\t3\t1\t1\t2\t9999", "the other corner, k 2: 1 alone drops nothing; each has at most one other nearer"),
+    // ---- the card's number and k, with the same three
+    (b"K\t2\t1", "K\t0\t1\t1", "squares from 2: 1 has 2e12, 9999 has 8e12, the greatest there is"),
+    (b"K\t2\t2", "K\t0\t2\t1\t9999", "and then 9999"),
+    (b"K\t1\t1", "K\t0\t1\t2", "2 and 9999 are as far from 1: the lower number"),
+    (b"K\t1\t16", "K\t0\t2\t2\t9999", "k 16: fewer are enrolled"),
+    (b"K\t3\t1", "K\t8", "number 3 is not enrolled"),
+    (b"K\t9998\t16", "K\t8", "nor is 9,998"),
+    (b"K\t0\t1", "K\t3", "number 0"),
+    (b"K\t10000\t1", "K\t3", "number 10,000"),
+    (b"K\t-1\t1", "K\t3", "number -1"),
+    (b"K\t9999999\t1", "K\t3", "a number of seven digits"),
+    (b"K\t-9999999\t1", "K\t3", "and with a minus"),
+    (b"K\t1\t0", "K\t5", "k 0"),
+    (b"K\t1\t17", "K\t5", "k 17"),
+    (b"K\t1\t-1", "K\t5", "k -1"),
+    (b"K\t1\t9999999", "K\t5", "k of seven digits"),
+    (b"K\t10000\t17", "K\t3", "3 comes before a k out of range"),
+    (b"K\t-1\t0", "K\t3", "3 comes before a k out of range"),
+    (b"K\t3\t0", "K\t5", "5 comes before 8"),
+    // ---- the card's k missing
+    (b"K\t1", "K\t5", "no further field"),
+    (b"K\t1\t", "K\t5", "just one, empty"),
+    (b"K\t0", "K\t5", "a missing k comes before 3"),
+    (b"K\t10000\t", "K\t5", "a missing k comes before 3"),
+    (b"K\t-5", "K\t5", "a missing k comes before 3"),
+    (b"K\t3", "K\t5", "a missing k comes before 8"),
+    (b"K\t1\t\t", "?\t11", "two, both empty"),
+    (b"K\t1\t\t1", "?\t11", "an empty one and another"),
+    (b"K\t1\t1\t", "?\t11", "k and an empty one"),
+    (b"K\t1\t1\t1", "?\t11", "a field too many"),
+    (b"K\t01", "?\t11", "no k, but the number has a leading zero"),
+    (b"K\t-0\t", "?\t11", "k is empty, but the number is -0"),
+    (b"K\tx", "?\t11", "no k, but the number is none"),
+    (b"K\t12345678\t", "?\t11", "k is empty, but the number has eight digits"),
+    (b"K", "?\t11", "the letter alone"),
+    (b"K\t", "?\t11", "an empty number and no k"),
+    (b"K\t\t", "?\t11", "an empty number and an empty k"),
+    (b"K\t\t1", "?\t11", "an empty number"),
+    (b"K\t00\t1", "?\t11", "the number is 00"),
+    (b"K\t+1\t1", "?\t11", "the number has a plus sign"),
+    (b"K\t1\tk", "?\t11", "k is no number"),
+    (b"K\t1\t01", "?\t11", "k has a leading zero"),
+    (b"K\t1\t-0", "?\t11", "k is -0"),
+    (b"K\t1\t ", "?\t11", "a space is not empty and no number"),
+    (b"K\t1\t\r", "?\t11", "a carriage return is not empty and no number"),
+    (b"K\t1\r", "?\t11", "a carriage return behind the number"),
+    (b"K\t1\t10000000", "?\t11", "k has eight digits"),
+    (b"K 1 1", "?\t11", "spaces part no fields"),
     // ---- k missing
     (b"Q\t0\t0", "Q\t5", "no further field"),
     (b"Q\t0\t0\t", "Q\t5", "just one, empty"),
@@ -131,6 +187,11 @@ const BY_HAND: &[Line] = &[
     (b"e\t3\t0\t0", "?\t11", "a lower case letter"),
     (b"w\t1", "?\t11", "a lower case letter"),
     (b"q\t0\t0\t1", "?\t11", "a lower case letter"),
+    (b"k\t1\t1", "?\t11", "a lower case letter"),
+    (b"k\t1", "?\t11", "a lower case letter, and no k"),
+    (b"KK\t1\t1", "?\t11", "two letters"),
+    (b"J\t1\t1", "?\t11", "the letter before K"),
+    (b"\xcb\t1\t1", "?\t11", "K with the high bit"),
     (b"EE\t3\t0\t0", "?\t11", "two letters"),
     (b"WQ\t1", "?\t11", "two letters"),
     (b"X\t1", "?\t11", "another letter"),
@@ -163,6 +224,67 @@ const BY_HAND: &[Line] = &[
     (b"W\t4", "W\t0", "the last point"),
     (b"W\t4", "W\t8", "withdrawn twice"),
     (b"Q\t4\t0\t1", "Q\t0\t0\t0\t0", "the empty table again"),
+    (b"K\t4\t1", "K\t8", "who has left has no card"),
+    // ---- cards of one leaf: six at one place, enrolled in falling order; 1 and 4 as far from there as each other
+    (b"E\t8\t100\t100", "E\t0", "8"),
+    (b"E\t7\t100\t100", "E\t0", "7, where 8 is"),
+    (b"E\t6\t100\t100", "E\t0", "6"),
+    (b"E\t5\t100\t100", "E\t0", "5"),
+    (b"E\t3\t100\t100", "E\t0", "3"),
+    (b"E\t2\t100\t100", "E\t0", "2"),
+    (b"K\t7\t1", "K\t0\t1\t2", "all at distance 0: the lowest number, though 2 came last"),
+    (b"K\t2\t1", "K\t0\t1\t3", "never itself"),
+    (b"K\t5\t3", "K\t0\t3\t2\t3\t6", "the three lowest but 5"),
+    (b"K\t8\t5", "K\t0\t5\t2\t3\t5\t6\t7", "k is just how many others there are"),
+    (b"K\t8\t4", "K\t0\t4\t2\t3\t5\t6", "one fewer"),
+    (b"E\t4\t105\t100", "E\t0", "4: 25 from the six"),
+    (b"E\t1\t103\t104", "E\t0", "1: 9 + 16 = 25 from the six, and 4 + 16 = 20 from 4"),
+    (b"K\t2\t16", "K\t0\t7\t3\t5\t6\t7\t8\t1\t4", "five at 0, then 1 and 4 at 25"),
+    (b"K\t2\t6", "K\t0\t6\t3\t5\t6\t7\t8\t1", "of 1 and 4 the lower"),
+    (b"K\t1\t3", "K\t0\t3\t4\t2\t3", "4 at 20, then the lowest of six at 25"),
+    (b"K\t4\t1", "K\t0\t1\t1", "1 at 20, and no lower number at 25 comes before it"),
+    (b"W\t3", "W\t0", "3 leaves"),
+    (b"K\t2\t16", "K\t0\t6\t5\t6\t7\t8\t1\t4", "no card names it any more"),
+    (b"K\t2\t1", "K\t0\t1\t5", "the next takes its place"),
+    (b"K\t3\t1", "K\t8", "and it has none itself"),
+    (b"E\t3\t100\t101", "E\t0", "3 comes back, 1 away from the five"),
+    (b"K\t2\t5", "K\t0\t5\t5\t6\t7\t8\t3", "four at 0, then 3 at 1"),
+    (b"K\t3\t1", "K\t0\t1\t2", "five at 1"),
+    (b"W\t3", "W\t0", "withdrawn"),
+    (b"W\t1", "W\t0", "withdrawn"),
+    (b"W\t4", "W\t0", "withdrawn"),
+    (b"W\t2", "W\t0", "withdrawn"),
+    (b"W\t5", "W\t0", "withdrawn"),
+    (b"W\t6", "W\t0", "withdrawn"),
+    (b"W\t8", "W\t0", "withdrawn"),
+    (b"K\t7\t16", "K\t0\t0", "alone again"),
+    (b"W\t7", "W\t0", "the last point"),
+    // ---- ten at one place, enrolled in falling order: at nine the leaf is split, the order kept, so slot 0 holds 30 to 27 and then 21, slot 1 holds 26 to 22
+    (b"E\t30\t-5\t5", "E\t0", "30"),
+    (b"E\t29\t-5\t5", "E\t0", "29"),
+    (b"E\t28\t-5\t5", "E\t0", "28"),
+    (b"E\t27\t-5\t5", "E\t0", "27"),
+    (b"E\t26\t-5\t5", "E\t0", "26"),
+    (b"E\t25\t-5\t5", "E\t0", "25"),
+    (b"E\t24\t-5\t5", "E\t0", "24"),
+    (b"E\t23\t-5\t5", "E\t0", "23"),
+    (b"E\t22\t-5\t5", "E\t0", "22"),
+    (b"E\t21\t-5\t5", "E\t0", "21"),
+    (b"K\t26\t1", "K\t0\t1\t21", "21, in the other leaf"),
+    (b"K\t26\t4", "K\t0\t4\t21\t22\t23\t24", "21 in the other leaf, and before 27 to 30 there the three of its own"),
+    (b"K\t30\t2", "K\t0\t2\t21\t22", "21 in its own leaf, 22 in the other"),
+    (b"K\t30\t6", "K\t0\t6\t21\t22\t23\t24\t25\t26", "all of the other leaf before 27 in its own"),
+    (b"K\t21\t16", "K\t0\t9\t22\t23\t24\t25\t26\t27\t28\t29\t30", "all others"),
+    (b"W\t21", "W\t0", "withdrawn"),
+    (b"W\t22", "W\t0", "withdrawn"),
+    (b"W\t23", "W\t0", "withdrawn"),
+    (b"W\t24", "W\t0", "withdrawn"),
+    (b"W\t25", "W\t0", "withdrawn"),
+    (b"W\t26", "W\t0", "withdrawn"),
+    (b"W\t27", "W\t0", "withdrawn"),
+    (b"W\t28", "W\t0", "withdrawn"),
+    (b"W\t29", "W\t0", "withdrawn"),
+    (b"W\t30", "W\t0", "withdrawn"),
     // ---- document 01's nine points: slots 0 and 1 hold 1 to 4 and 5 to 9, slot 2 is the root
     (b"E\t1\t0\t0", "E\t0", "1"),
     (b"E\t2\t10\t0", "E\t0", "2"),
@@ -176,9 +298,22 @@ const BY_HAND: &[Line] = &[
     (b"E\t9\t80\t0", "E\t0", "9: the leaf is split"),
     (b"Q\t-10\t0\t1", "Q\t0\t1\t1\t2\t1", "document 01's example: answer 1, m 1, o 2; slot 1 is never opened"),
     (b"Q\t90\t0\t1", "Q\t0\t1\t1\t2\t9", "from the other end: slot 0 is never opened"),
+    // ---- cards of the nine: 4 at 30 is the last of slot 0, 5 at 40 the first of slot 1, and each has neighbours as far to both sides
+    (b"K\t5\t1", "K\t0\t1\t4", "6, in its own leaf, and 4, in the other, are at 100: the lower number, though its box is no nearer than 6"),
+    (b"K\t5\t2", "K\t0\t2\t4\t6", "both"),
+    (b"K\t5\t3", "K\t0\t3\t4\t6\t3", "3 and 7 at 400: 3"),
+    (b"K\t6\t3", "K\t0\t3\t5\t7\t4", "5 and 7 at 100; 8, in its own leaf, and 4, in the other, at 400: 4"),
+    (b"K\t4\t1", "K\t0\t1\t3", "3, in its own leaf, and 5, in the other, are at 100"),
+    (b"K\t4\t4", "K\t0\t4\t3\t5\t2\t6", "at 100, 100, 400, 400"),
+    (b"K\t9\t3", "K\t0\t3\t8\t7\t6", "from the end: nearest first, not rising"),
+    (b"K\t1\t5", "K\t0\t5\t2\t3\t4\t5\t6", "out of its own leaf, which has but three others"),
+    (b"K\t5\t16", "K\t0\t8\t4\t6\t3\t7\t2\t8\t1\t9", "all others"),
+    (b"K\t5\t8", "K\t0\t8\t4\t6\t3\t7\t2\t8\t1\t9", "as many as there are"),
+    (b"K\t5\t7", "K\t0\t7\t4\t6\t3\t7\t2\t8\t1", "one fewer"),
+    (b"Q\t90\t0\t1", "Q\t0\t1\t1\t2\t9", "a card changes nothing"),
 ];
 
-/// The rest: 500 points and one more, some queries among them, and a last line without its line feed. Each with what it gives back.
+/// The rest: 500 points and one more, some queries and cards among them, and a last line without its line feed. Each with what it gives back.
 fn many() -> Vec<(String, u8)> {
     let mut r = Random(7);
     let mut out = Vec::new();
@@ -197,8 +332,15 @@ fn many() -> Vec<(String, u8)> {
             out.push((format!("Q\t{x}\t{y}\t{k}"), given));
         }
     }
+    for k in [0, 1, 2, 15, 16, 17] {
+        for number in [1, 9, 10, 250, 499, 500, 501, 9_999, 10_000] {
+            let given = if number > 9_999 { 3 } else if k == 0 || k == 17 { 5 } else if number > 500 { 8 } else { 0 };
+            out.push((format!("K\t{number}\t{k}"), given));
+        }
+    }
     out.push(("W\t500".into(), 0));
     out.push(("W\t500".into(), 8));
+    out.push(("K\t500\t1".into(), 8));
     out.push(("E\t501\t3\t3".into(), 0));
     out.push(("E\t500\t3\t3".into(), 7));
     out.push(("E\t501\t3\t3".into(), 6));
@@ -206,6 +348,9 @@ fn many() -> Vec<(String, u8)> {
         out.push((format!("W\t{number}"), 0));
     }
     out.push(("W\t300".into(), 8));
+    for number in 290..=310 {
+        out.push((format!("K\t{number}\t{}", number % 16 + 1), if number % 3 == 0 { 8 } else { 0 }));
+    }
     out.push(("Q\t3\t3\t1".into(), 0));
     out.push(("Q\t3\t3\t16".into(), 0));
     out

@@ -1,5 +1,7 @@
-//! The holders as a flat list, with no tree: enrolment and withdrawal with document 01's refusals, and the query by a scan of every pair.
+//! The holders as a flat list, with no tree: enrolment and withdrawal with document 01's refusals, the query by a scan of every pair, the card by
+//! a scan of all others.
 
+use crate::card::{scanned, MOST_K};
 use crate::query::scan;
 use crate::table::{on_grid, MOST};
 
@@ -43,5 +45,12 @@ impl Flat {
 
     pub fn query(&self, q: [i64; 2], k: usize) -> Vec<i32> {
         scan(&self.all, q, k)
+    }
+
+    /// The cards of these numbers, who are all enrolled, each in its stretch of sixteen places.
+    pub fn cards(&self, numbers: &[i32], k: usize, cards: &mut [u32]) {
+        for (stretch, &number) in cards.chunks_exact_mut(MOST_K).zip(numbers) {
+            scanned(&self.all, &self.all[self.place_of(number).expect("one who is enrolled")], k, stretch);
+        }
     }
 }

@@ -47,3 +47,11 @@ pub fn query(table: &[i32], x: i32, y: i32, k: i32, l: &mut Lists) -> i32 {
 pub fn sites(table: &[i32], xs: &[i32], ys: &[i32], k: i32, counts: &mut [u32]) -> i32 {
     i32::from(lent::sites(table, xs, ys, k, counts))
 }
+
+pub fn card(table: &[i32], number: i32, k: i32, list: &mut [u32], names: &mut [u64]) -> i32 {
+    i32::from(lent::card(table, number, k, list, names))
+}
+
+pub fn cards(table: &[i32], numbers: &[i32], k: i32, cards: &mut [u32]) -> i32 {
+    i32::from(lent::cards(table, numbers, k, cards))
+}

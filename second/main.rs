@@ -2,6 +2,7 @@
 //! `second tables` and `second tables-expected` make the input of the test program `tables` and what it must print, `second edges` and
 //! `second edges-expected` those of `edges`; `second sheet SEED` prints a random sheet; `second bench PROGRAM FOLDER ROUNDS` measures a whole sheet.
 
+mod card;
 mod check;
 mod damage;
 mod edges;
@@ -42,10 +43,10 @@ fn say(bytes: &[u8]) {
     std::io::stdout().write_all(bytes).expect("standard output");
 }
 
-/// The walk's answers are those of every pair, and each table on the way is well formed.
+/// The walk's answers are those of every pair, a card's names are the same by a sort and by a scan, and each table on the way is well formed.
 fn selftest() {
     let mut r = random::Random(1);
-    let mut queries = 0;
+    let (mut queries, mut cards) = (0, 0);
     for round in 0..60 {
         let mut t = table::Table::new();
         for step in 0..600 {
@@ -62,8 +63,15 @@ fn selftest() {
                 let (q, k) = ([x as i64, y as i64], r.between(1, 16) as usize);
                 assert_eq!(query::walk(&t, q, k).answers, query::scan(&t.stations(), q, k));
                 queries += 1;
+                let all = t.stations();
+                if let Some(p) = all.get(r.below(all.len() as u64 + 1) as usize) {
+                    let mut names = [0; card::MOST_K];
+                    let n = card::scanned(&all, p, k, &mut names);
+                    assert_eq!(Ok(names[..n].iter().map(|&a| a as i32).collect()), card::card(&all, p.0, k as i32));
+                    cards += 1;
+                }
             }
         }
     }
-    println!("second: {queries} queries agree with the count of every pair");
+    println!("second: {queries} queries agree with the count of every pair, {cards} cards by a sort with those by a scan");
 }

@@ -20,6 +20,10 @@ impl Random {
         a + self.below((b - a + 1) as u64) as i64
     }
 
+    pub fn pick<'a, T>(&mut self, from: &'a [T]) -> &'a T {
+        &from[self.below(from.len() as u64) as usize]
+    }
+
     /// A place by one of several habits: anywhere, a small grid with many ties, a line, one spot.
     pub fn place(&mut self, habit: u64) -> (i32, i32) {
         let (x, y) = match habit % 5 {

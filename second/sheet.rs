@@ -1,5 +1,6 @@
-//! The job sheet of document 01, in the second implementation.
+//! The job sheet of document 01, with the lines that 02 adds, in the second implementation.
 
+use crate::card::card;
 use crate::flat::Flat;
 use crate::query::{walk, Found};
 use crate::table::{on_grid, Table};
@@ -15,7 +16,9 @@ enum Job {
     Enrol(i32, i32, i32),
     Withdraw(i32),
     Query(i32, i32, i32),
-    MissingK,
+    Card(i32, i32),
+    /// The letter of a line that lacks its k.
+    MissingK(char),
     Misshapen,
 }
 
@@ -38,9 +41,12 @@ fn job(line: &[u8]) -> Job {
     let parsed = match (fields[0], fields.len()) {
         (b"E", 4) => (|| Some(Job::Enrol(n(1)?, n(2)?, n(3)?)))(),
         (b"W", 2) => n(1).map(Job::Withdraw),
-        (b"Q", 3) => n(1).and(n(2)).map(|_| Job::MissingK),
-        (b"Q", 4) if fields[3].is_empty() => n(1).and(n(2)).map(|_| Job::MissingK),
+        (b"Q", 3) => n(1).and(n(2)).map(|_| Job::MissingK('Q')),
+        (b"Q", 4) if fields[3].is_empty() => n(1).and(n(2)).map(|_| Job::MissingK('Q')),
         (b"Q", 4) => (|| Some(Job::Query(n(1)?, n(2)?, n(3)?)))(),
+        (b"K", 2) => n(1).map(|_| Job::MissingK('K')),
+        (b"K", 3) if fields[2].is_empty() => n(1).map(|_| Job::MissingK('K')),
+        (b"K", 3) => n(1).zip(n(2)).map(|(p, k)| Job::Card(p, k)),
         _ => None,
     };
     parsed.unwrap_or(Job::Misshapen)
@@ -51,6 +57,8 @@ trait Keeper {
     fn enrol(&mut self, number: i32, x: i32, y: i32) -> i32;
     fn withdraw(&mut self, number: i32) -> i32;
     fn query(&self, q: [i64; 2], k: usize) -> Found;
+    /// The names, or the number that the card is refused with.
+    fn card(&self, number: i32, k: i32) -> Result<Vec<i32>, i32>;
 }
 
 impl Keeper for Table {
@@ -65,6 +73,10 @@ impl Keeper for Table {
     fn query(&self, q: [i64; 2], k: usize) -> Found {
         walk(self, q, k)
     }
+
+    fn card(&self, number: i32, k: i32) -> Result<Vec<i32>, i32> {
+        card(&self.stations(), number, k)
+    }
 }
 
 impl Keeper for Flat {
@@ -78,6 +90,10 @@ impl Keeper for Flat {
 
     fn query(&self, q: [i64; 2], k: usize) -> Found {
         Found { answers: Flat::query(self, q, k), ..Found::default() }
+    }
+
+    fn card(&self, number: i32, k: i32) -> Result<Vec<i32>, i32> {
+        card(&self.all, number, k)
     }
 }
 
@@ -103,33 +119,39 @@ fn run_with<K: Keeper>(sheet: &[u8], mut keeper: K) -> Vec<u8> {
     }
     let mut out = Vec::new();
     for (i, line) in lines(sheet).iter().enumerate() {
-        let (letter, given, found) = match job(line) {
-            Job::Enrol(p, x, y) => ('E', keeper.enrol(p, x, y), None),
-            Job::Withdraw(p) => ('W', keeper.withdraw(p), None),
-            Job::Query(x, y, _) if !on_grid(x) || !on_grid(y) => ('Q', 4, None),
-            Job::Query(_, _, k) if !(1..=16).contains(&k) => ('Q', 5, None),
-            Job::Query(x, y, k) => ('Q', 0, Some(keeper.query([i64::from(x), i64::from(y)], k as usize))),
-            Job::MissingK => ('Q', 5, None),
-            Job::Misshapen => ('?', 11, None),
+        let (letter, given, more) = match job(line) {
+            Job::Enrol(p, x, y) => ('E', keeper.enrol(p, x, y), vec![]),
+            Job::Withdraw(p) => ('W', keeper.withdraw(p), vec![]),
+            Job::Query(x, y, _) if !on_grid(x) || !on_grid(y) => ('Q', 4, vec![]),
+            Job::Query(_, _, k) if !(1..=16).contains(&k) => ('Q', 5, vec![]),
+            Job::Query(x, y, k) => {
+                let f = keeper.query([i64::from(x), i64::from(y)], k as usize);
+                ('Q', 0, listed(&[f.answers.len(), f.candidates.len(), f.opened], &f.answers))
+            }
+            Job::Card(p, k) => match keeper.card(p, k) {
+                Ok(names) => ('K', 0, listed(&[names.len()], &names)),
+                Err(given) => ('K', given, vec![]),
+            },
+            Job::MissingK(letter) => (letter, 5, vec![]),
+            Job::Misshapen => ('?', 11, vec![]),
         };
         put(&mut out, i as i64 + 1);
         out.push(b'\t');
         out.push(letter as u8);
         out.push(b'\t');
         put(&mut out, i64::from(given));
-        if let Some(f) = found {
-            for v in [f.answers.len(), f.candidates.len(), f.opened] {
-                out.push(b'\t');
-                put(&mut out, v as i64);
-            }
-            for a in f.answers {
-                out.push(b'\t');
-                put(&mut out, i64::from(a));
-            }
+        for v in more {
+            out.push(b'\t');
+            put(&mut out, v);
         }
         out.push(b'\n');
     }
     out
+}
+
+/// The further fields of a granted line: its counts, then the point numbers.
+fn listed(counts: &[usize], numbers: &[i32]) -> Vec<i64> {
+    counts.iter().map(|&n| n as i64).chain(numbers.iter().map(|&p| i64::from(p))).collect()
 }
 
 fn put(out: &mut Vec<u8>, v: i64) {

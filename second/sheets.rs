@@ -31,13 +31,15 @@ pub fn sheet(seed: u64) -> Vec<u8> {
     out
 }
 
-/// Lines that grow the table and shrink it, with queries; some damaged.
+/// Lines that grow the table and shrink it, with queries and cards; some damaged.
 fn mixed(r: &mut Random, damaged: u64, habit: u64) -> Vec<u8> {
     let mut out = Vec::new();
     let want = r.between(1, 24_000) as usize;
     let growing = r.between(1, 4) as u64;
+    // Few numbers make a small table, and more cards of those enrolled.
+    let highest = *r.pick(&[12, 100, 700]);
     while out.len() < want {
-        let mut line = good_line(r, habit, 1 + r.0 % 6, growing);
+        let mut line = good_line(r, habit, 1 + r.0 % 6, growing, highest);
         if r.below(100) < damaged {
             damage(r, &mut line);
         }
@@ -47,38 +49,55 @@ fn mixed(r: &mut Random, damaged: u64, habit: u64) -> Vec<u8> {
     out
 }
 
-/// One good line; now and then with a number out of range or without its k.
-fn good_line(r: &mut Random, habit: u64, queries: u64, growing: u64) -> Vec<u8> {
+/// One good line; now and then with a number out of range or without its k. Of ten lines so many only ask, of five others so many enrol.
+fn good_line(r: &mut Random, habit: u64, asking: u64, growing: u64, highest: i64) -> Vec<u8> {
     let (mut x, y) = r.place(habit);
     if r.below(30) == 0 {
-        x = *pick(r, &[1_000_000, 1_000_001, -1_000_000, -1_000_001, 9_999_999]);
+        x = *r.pick(&[1_000_000, 1_000_001, -1_000_000, -1_000_001, 9_999_999]);
     }
-    let mut number = r.between(1, 700);
+    let mut number = r.between(1, highest);
     if r.below(30) == 0 {
-        number = *pick(r, &[0, 1, 9_999, 10_000, -5, 9_999_999]);
+        number = *r.pick(&[0, 1, 9_999, 10_000, -5, 9_999_999]);
     }
-    if r.below(10) < queries {
+    if r.below(10) < asking {
         let k = if r.below(15) == 0 { r.between(-1, 18) } else { r.between(1, 16) };
+        let asked = if r.below(5) < 2 { format!("K\t{number}") } else { format!("Q\t{x}\t{y}") };
         return match r.below(25) {
-            0 => format!("Q\t{x}\t{y}"),
-            1 => format!("Q\t{x}\t{y}\t"),
-            _ => format!("Q\t{x}\t{y}\t{k}"),
+            0 => asked,
+            1 => format!("{asked}\t"),
+            2 if r.below(2) == 0 => odd_card(r, number, k),
+            _ => format!("{asked}\t{k}"),
         }
         .into_bytes();
     }
     if r.below(5) < growing { format!("E\t{number}\t{x}\t{y}") } else { format!("W\t{number}") }.into_bytes()
 }
 
-fn pick<'a, T>(r: &mut Random, from: &'a [T]) -> &'a T {
-    &from[r.below(from.len() as u64) as usize]
+/// A line for a card with something wrong: its fields, its number or its k; most are misshapen.
+fn odd_card(r: &mut Random, number: i64, k: i64) -> String {
+    match r.below(13) {
+        0 => format!("K\t{number}\t\t"),
+        1 => format!("K\t{number}\t{k}\t"),
+        2 => format!("K\t\t{k}"),
+        3 => format!("K\t0{number}\t{k}"),
+        4 => format!("K\t{number}\t0{k}"),
+        5 => format!("K\t-{number}\t{k}"),
+        6 => format!("K\t{number}\t-{k}"),
+        7 => format!("K\t0{number}"),
+        8 => "K\t-0\t".into(),
+        9 => format!("k\t{number}\t{k}"),
+        10 => format!("K\t{}", r.between(-9_999_999, 9_999_999)),
+        11 => format!("K\t{}\t{}", r.pick(&[0, 10_000, -1]), r.pick(&[0, 17, -1])),
+        _ => "K".into(),
+    }
 }
 
 /// Bytes that damage a line without leaving its grammar far behind, and some that do.
 fn some_byte(r: &mut Random) -> u8 {
     match r.below(4) {
-        0 => *pick(r, b"EWQewq?\t\t-+0123456789"),
-        1 => *pick(r, b"\t\t\t-0 \r\0"),
-        2 => *pick(r, b"0123456789"),
+        0 => *r.pick(b"EWQKewqk?\t\t-+0123456789"),
+        1 => *r.pick(b"\t\t\t-0 \r\0"),
+        2 => *r.pick(b"0123456789"),
         _ => r.next() as u8,
     }
 }
@@ -93,7 +112,7 @@ fn damage(r: &mut Random, line: &mut Vec<u8>) {
             }
             2 if at < line.len() => line[at] = some_byte(r),
             3 => line.truncate(at),
-            4 => line.push(*pick(r, b"\t\t0 \r\0x")),
+            4 => line.push(*r.pick(b"\t\t0 \r\0x")),
             _ => line[..].reverse(),
         }
     }
@@ -105,11 +124,11 @@ fn noise(r: &mut Random) -> Vec<u8> {
     (0..r.below(20_000)).map(|_| if r.below(feeds) == 0 { b'\n' } else { some_byte(r) }).collect()
 }
 
-/// Many stations at one place and a run of queries there: the output is far longer than the sheet.
+/// Many stations at one place, a run of queries there, and some cards: the output is far longer than the sheet.
 fn at_one_place(r: &mut Random) -> Vec<u8> {
     let mut out = Vec::new();
     let (x, y) = r.place(0);
-    let stations = *pick(r, &[9, 100, 499, 500, 501]);
+    let stations = *r.pick(&[9, 100, 499, 500, 501]);
     for n in 0..stations {
         out.extend(format!("E\t{}\t{x}\t{y}\n", 9999 - 7 * n).into_bytes());
     }
@@ -117,19 +136,22 @@ fn at_one_place(r: &mut Random) -> Vec<u8> {
     for _ in 0..r.between(30, 300) {
         out.extend(format!("Q\t{x}\t{y}\t{k}\n").into_bytes());
     }
+    for _ in 0..20 {
+        out.extend(format!("K\t{}\t{}\n", 9999 - 7 * r.between(0, stations), r.between(1, 16)).into_bytes());
+    }
     out
 }
 
 /// Up to five bytes: the empty sheet, an empty line, a letter.
 fn short(r: &mut Random) -> Vec<u8> {
-    (0..r.below(6)).map(|_| *pick(r, b"\n\n\tEWQ1\r\0")).collect()
+    (0..r.below(6)).map(|_| *r.pick(b"\n\n\tEWQK1\r\0")).collect()
 }
 
 /// A sheet of exactly so many bytes.
 fn of_length(r: &mut Random, length: usize) -> Vec<u8> {
     let mut out = Vec::new();
     while out.len() < length {
-        out.extend(good_line(r, 4, 1, 4));
+        out.extend(good_line(r, 4, 1, 4, 700));
         out.push(b'\n');
     }
     out.truncate(length);
@@ -139,14 +161,14 @@ fn of_length(r: &mut Random, length: usize) -> Vec<u8> {
 /// A few good lines, and among them one of thousands of bytes.
 fn long_line(r: &mut Random) -> Vec<u8> {
     let mut out = mixed(r, 10, 1);
-    let b = *pick(r, b"\t0-EQ \xff");
-    out.extend(b"Q\t0\t0\t");
+    let b = *r.pick(b"\t0-EQ \xff");
+    out.extend(*r.pick(&[&b"Q\t0\t0\t"[..], b"K\t1\t", b"K\t"]));
     out.extend(vec![b; r.between(1, 30_000) as usize]);
-    out.extend(b"\nQ\t0\t0\t3\n");
+    out.extend(b"\nQ\t0\t0\t3\nK\t1\t3\n");
     out
 }
 
-/// Past 500 points and down again, with queries at the full table.
+/// Past 500 points and down again, with queries and cards at the full table.
 fn full(r: &mut Random, habit: u64) -> Vec<u8> {
     let mut out = Vec::new();
     let mut number = 0;
@@ -156,8 +178,8 @@ fn full(r: &mut Random, habit: u64) -> Vec<u8> {
         out.extend(format!("E\t{number}\t{x}\t{y}\n").into_bytes());
     }
     for _ in 0..400 {
-        let query = r.below(4) == 0;
-        out.extend(good_line(r, habit, if query { 10 } else { 0 }, 1));
+        let asking = r.below(3) == 0;
+        out.extend(good_line(r, habit, if asking { 10 } else { 0 }, 1, 1000));
         out.push(b'\n');
     }
     out

@@ -1,5 +1,5 @@
 /* Tries every call of ullagreth.h: document 01's cases, each refusal in its order, and what must stay as it was.
- * Prints what failed and exits 1, or prints one line. What is expected was written by hand from document 01. */
+ * Prints what failed and exits 1, or prints one line. What is expected was written by hand from documents 01 and 02. */
 #include "ullagreth.h"
 #include <stdio.h>
 #include <string.h>
@@ -12,7 +12,7 @@ _Static_assert(offsetof(struct ullagreth_candidate, x) == 8, "the place of x");
 _Static_assert(offsetof(struct ullagreth_candidate, y) == 12, "the place of y");
 _Static_assert(offsetof(struct ullagreth_candidate, square) == 16, "the place of the square");
 
-enum { WORDS = ULLAGRETH_WORDS, MOST = ULLAGRETH_MOST_POINTS, REACH = ULLAGRETH_REACH };
+enum { WORDS = ULLAGRETH_WORDS, MOST = ULLAGRETH_MOST_POINTS, REACH = ULLAGRETH_REACH, MOST_K = ULLAGRETH_MOST_K };
 
 /* Marks that no call writes. */
 enum { MARK = 77777 };
@@ -121,7 +121,7 @@ static void granted(const struct query *q, const struct point *points)
 /* The same query with one answer place too few: n alone, the list as before, no answer. */
 static void refused_for_answers(const struct query *q, const struct point *points)
 {
-    SAME(ask(WORDS, q->x, q->y, q->k, MOST, q->n - 1), ULLAGRETH_FEW_ANSWERS);
+    SAME(ask(WORDS, q->x, q->y, q->k, MOST, q->n - 1), ULLAGRETH_SHORT_LIST);
     SAME(counts[0], q->n);
     SAME(counts[1], 0);
     SAME(counts[2], 0);
@@ -314,7 +314,7 @@ static void queries_refused(void)
         query_refused(ULLAGRETH_NO_SUCH_K, WORDS, REACH, -REACH, ks[i], 0);
     /* With k 16 all nine answer, with k 1 none: each has another nearer. */
     query_refused(ULLAGRETH_FEW_CANDIDATES, WORDS, -REACH, REACH, 16, 8);
-    SAME(ask(WORDS, -REACH, REACH, 16, 9, 8), ULLAGRETH_FEW_ANSWERS);
+    SAME(ask(WORDS, -REACH, REACH, 16, 9, 8), ULLAGRETH_SHORT_LIST);
     SAME(ask(WORDS, -REACH, REACH, 16, 9, 9), ULLAGRETH_DONE);
     SAME(counts[0], 9);
     SAME(ask(WORDS, -REACH, REACH, 1, 9, 0), ULLAGRETH_DONE);
@@ -378,6 +378,167 @@ static void many_places(void)
     SAME(found[0], MARK);
 }
 
+/* ---- cards */
+
+static uint32_t names[MOST_K + 1];
+static uint64_t how_many[2];
+
+/* From so many on, the list has its marks; so has the second place of the other row. */
+static int unnamed_from(size_t n)
+{
+    int holds = how_many[1] == MARK;
+    for (size_t i = n; i < LENGTH(names); i++)
+        holds = holds && names[i] == MARK;
+    return holds;
+}
+
+/* A card with a table of so many words and a list of so many places, on rows that are marked. */
+static uint8_t ask_card(size_t words, int32_t number, int32_t k, size_t places)
+{
+    for (size_t i = 0; i < LENGTH(names); i++)
+        names[i] = MARK;
+    how_many[0] = how_many[1] = MARK;
+    save();
+    return ullagreth_card(table, words, number, k, names, places, how_many, 2);
+}
+
+/* A card and what is wanted: how many names, and the names in card order. */
+struct card {
+    int32_t number, k;
+    size_t n;
+    uint32_t names[8];
+};
+
+/* With room to spare, with just enough, and with one place too few: then the length alone. */
+static void try_cards(const struct card *cards, size_t n)
+{
+    for (const struct card *c = cards; c < cards + n; c++) {
+        for (size_t places = c->n; places <= LENGTH(names); places += LENGTH(names) - c->n) {
+            SAME(ask_card(WORDS, c->number, c->k, places), ULLAGRETH_DONE);
+            SAME(how_many[0], c->n);
+            SAME(memcmp(names, c->names, c->n * sizeof names[0]), 0);
+            SAME(unnamed_from(c->n), 1);
+            SAME(stays(), 1);
+        }
+        if (c->n == 0)
+            continue;
+        SAME(ask_card(WORDS, c->number, c->k, c->n - 1), ULLAGRETH_SHORT_LIST);
+        SAME(how_many[0], c->n);
+        SAME(unnamed_from(0), 1);
+        SAME(stays(), 1);
+    }
+}
+
+static void cards_of_few(void)
+{
+    static const struct point points[] = {{1, 0, 0}, {2, 4, 0}, {3, 10, 0}, {4, 4, 0}};
+    /* Alone, a station has an empty card, for which a list of no places is long enough. */
+    static const struct card of_one[] = {{1, 1, 0, {0}}, {1, 16, 0, {0}}};
+    static const struct card of_three[] = {{2, 1, 1, {1}}, {2, 2, 2, {1, 3}}, {1, 16, 2, {2, 3}}, {3, 1, 1, {2}}};
+    /* 4 stands where 2 does: each is the other's nearest, and to 1 and 3 they are as near, so that the lower number decides. */
+    static const struct card of_four[] = {{2, 1, 1, {4}}, {4, 2, 2, {2, 1}}, {1, 1, 1, {2}}, {1, 2, 2, {2, 4}}, {3, 16, 3, {2, 4, 1}}};
+    ullagreth_empty(table);
+    enrol_all(points, 1);
+    try_cards(of_one, LENGTH(of_one));
+    enrol_all(points + 1, 2);
+    try_cards(of_three, LENGTH(of_three));
+    enrol_all(points + 3, 1);
+    try_cards(of_four, LENGTH(of_four));
+    /* With 2 enrolled after 4, it stands behind 4 in the leaf: the cards are the same. */
+    SAME(ullagreth_withdraw(table, WORDS, 2), ULLAGRETH_DONE);
+    enrol_all(points + 1, 1);
+    try_cards(of_four, LENGTH(of_four));
+    SAME(ullagreth_withdraw(table, WORDS, 4), ULLAGRETH_DONE);
+    try_cards(of_three, LENGTH(of_three));
+}
+
+/* Slot 0 holds 1 to 4, slot 1 holds 5 to 9. 4 and 6 are as near to 5, and 4 and 8 to 6: the lower number, though its box is no nearer. */
+static void cards_of_nine(void)
+{
+    static const struct card cards[] = {
+        {5, 1, 1, {4}},
+        {5, 3, 3, {4, 6, 3}},
+        {5, 16, 8, {4, 6, 3, 7, 2, 8, 1, 9}},
+        {6, 3, 3, {5, 7, 4}},
+        {9, 2, 2, {8, 7}},
+        {1, 5, 5, {2, 3, 4, 5, 6}},
+    };
+    struct point points[9];
+    nine(points);
+    try_cards(cards, LENGTH(cards));
+    /* A row of no places for how many stays as it was. */
+    how_many[0] = MARK;
+    SAME(ullagreth_card(table, WORDS, 5, 1, names, MOST_K, how_many, 0), ULLAGRETH_DONE);
+    SAME(how_many[0], MARK);
+}
+
+static void card_refused(uint8_t given, size_t words, int32_t number, int32_t k)
+{
+    SAME(ask_card(words, number, k, 0), given);
+    SAME(how_many[0], 0);
+    SAME(unnamed_from(0), 1);
+    SAME(stays(), 1);
+}
+
+/* Every line from the wanted one on holds, and none before it. */
+static void cards_refused(void)
+{
+    static const size_t lengths[] = {0, 1, WORDS - 1, WORDS + 1};
+    static const int32_t numbers[] = {0, 10000, -1, INT32_MAX, INT32_MIN};
+    static const int32_t ks[] = {0, 17, -1, INT32_MAX, INT32_MIN};
+    struct point points[9];
+    nine(points);
+    for (size_t i = 0; i < 5; i++) {
+        card_refused(ULLAGRETH_NO_SUCH_NUMBER, WORDS, numbers[i], ks[i]);
+        card_refused(ULLAGRETH_NO_SUCH_NUMBER, WORDS, numbers[i], 1);
+        card_refused(ULLAGRETH_NO_SUCH_K, WORDS, 10, ks[i]);
+        card_refused(ULLAGRETH_NO_SUCH_K, WORDS, 9, ks[i]);
+    }
+    card_refused(ULLAGRETH_NOT_ENROLLED, WORDS, 10, 1);
+    card_refused(ULLAGRETH_NOT_ENROLLED, WORDS, 9999, 16);
+    table[WORDS] = 0;
+    table[1] = 10;
+    for (size_t i = 0; i < LENGTH(lengths); i++)
+        card_refused(ULLAGRETH_WRONG_LENGTH, lengths[i], 0, 0);
+    card_refused(ULLAGRETH_NOT_WELL_FORMED, WORDS, 0, 0);
+    card_refused(ULLAGRETH_NOT_WELL_FORMED, WORDS, 5, 1);
+    ullagreth_empty(table);
+    card_refused(ULLAGRETH_NOT_ENROLLED, WORDS, 1, 1);
+}
+
+/* 0 and 10 have no card, and their stretches stay; so does what is left behind the last whole stretch, or the last number. */
+static void many_cards(void)
+{
+    static const int32_t numbers[] = {5, 0, 6, 10, 9};
+    static const uint32_t wanted[5][3] = {{4, 6, 3}, {MARK, MARK, MARK}, {5, 7, 4}, {MARK, MARK, MARK}, {8, 7, 6}};
+    static const size_t lengths[] = {0, 3, 15, 16, 17, 31, 47, 48, 79, 80, 81, 6 * MOST_K};
+    uint32_t cards[6 * MOST_K];
+    struct point points[9];
+    nine(points);
+    save();
+    for (size_t l = 0; l < LENGTH(lengths); l++) {
+        for (size_t i = 0; i < LENGTH(cards); i++)
+            cards[i] = MARK;
+        SAME(ullagreth_cards(table, WORDS, numbers, 5, 3, cards, lengths[l]), ULLAGRETH_DONE);
+        for (size_t i = 0; i < LENGTH(cards); i++) {
+            size_t card = i / MOST_K, place = i % MOST_K;
+            int written = card < 5 && (card + 1) * MOST_K <= lengths[l] && place < 3;
+            SAME(cards[i], written ? wanted[card][place] : MARK);
+        }
+    }
+    for (size_t i = 0; i < LENGTH(cards); i++)
+        cards[i] = MARK;
+    SAME(ullagreth_cards(table, WORDS, numbers, 0, 3, cards, LENGTH(cards)), ULLAGRETH_DONE);
+    SAME(ullagreth_cards(table, WORDS, numbers, 5, 0, cards, LENGTH(cards)), ULLAGRETH_DONE);
+    SAME(ullagreth_cards(table, WORDS, numbers, 5, 17, cards, LENGTH(cards)), ULLAGRETH_DONE);
+    SAME(ullagreth_cards(table, WORDS - 1, numbers, 5, 3, cards, LENGTH(cards)), ULLAGRETH_WRONG_LENGTH);
+    SAME(stays(), 1);
+    table[1] = 10;
+    SAME(ullagreth_cards(table, WORDS, numbers, 5, 3, cards, LENGTH(cards)), ULLAGRETH_NOT_WELL_FORMED);
+    for (size_t i = 0; i < LENGTH(cards); i++)
+        SAME(cards[i], MARK);
+}
+
 static void try(const char *name, void (*cases)(void))
 {
     trying = name;
@@ -394,6 +555,10 @@ int main(void)
     try("queries refused", queries_refused);
     try("changes refused", changes_refused);
     try("many places", many_places);
+    try("cards of few", cards_of_few);
+    try("cards of nine", cards_of_nine);
+    try("cards refused", cards_refused);
+    try("many cards", many_cards);
     if (failures > 0) {
         printf("the C header: %d of %d checks failed\n", failures, checks);
         return 1;

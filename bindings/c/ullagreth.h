@@ -24,7 +24,7 @@ enum {
     ULLAGRETH_MOST_POINTS = 500, /* a candidate list and an answer list of so many are never refused */
     ULLAGRETH_HIGHEST_NUMBER = 9999,
     ULLAGRETH_REACH = 1000000, /* a coordinate runs from -ULLAGRETH_REACH to ULLAGRETH_REACH */
-    ULLAGRETH_MOST_K = 16
+    ULLAGRETH_MOST_K = 16      /* and so the most names on a card: a list of so many is never refused */
 };
 
 /* The numbers given back. */
@@ -39,7 +39,7 @@ enum {
     ULLAGRETH_FULL = 7,             /* 500 points enrolled */
     ULLAGRETH_NOT_ENROLLED = 8,     /* point not enrolled */
     ULLAGRETH_FEW_CANDIDATES = 9,   /* candidate list shorter than the points enrolled */
-    ULLAGRETH_FEW_ANSWERS = 10,     /* answer list shorter than n */
+    ULLAGRETH_SHORT_LIST = 10,      /* list shorter than what it is to get: the answers of a query, the names of a card */
     ULLAGRETH_MISSHAPEN = 11,       /* misshapen line: of the job sheet only, no call here gives it */
     ULLAGRETH_SHEET_TOO_LONG = 12   /* sheet longer than 65,536 bytes: of the job sheet only */
 };
@@ -86,6 +86,20 @@ uint8_t ullagreth_query(const int32_t *table, size_t table_length, int32_t x, in
  * The counts behind those stay as they were. */
 uint8_t ullagreth_sites(const int32_t *table, size_t table_length, const int32_t *xs, size_t xs_length, const int32_t *ys, size_t ys_length,
                         int32_t k, uint32_t *counts, size_t counts_length);
+
+/* Lists the card of the station with a number: its k nearest other holders by squared distance, equal distances by lower number; fewer if fewer
+ * are enrolled. Gives the first of 1, 2, 3, 5, 8, 10 whose line holds, and then the list stays; or 0: then the front of the list has the names,
+ * nearest first, and the rest stays. The first place of the row of names becomes how many names the card has (10: so many too; any other
+ * refusal: 0) and the rest of it stays; a row of no places stays. */
+uint8_t ullagreth_card(const int32_t *table, size_t table_length, int32_t number, int32_t k, uint32_t *list, size_t list_length,
+                       uint64_t *names, size_t names_length);
+
+/* The cards of many stations after one check of the table. Gives 1 or 2 as the check does, and then no place changes; or 0: then the card of
+ * numbers[i] goes to the front of the i-th stretch of ULLAGRETH_MOST_K places, for each i with a number and a whole stretch. All other places
+ * stay, and so does the stretch of a number whose card is refused: in a row of zeros each card ends where its stretch does or at its first
+ * zero. */
+uint8_t ullagreth_cards(const int32_t *table, size_t table_length, const int32_t *numbers, size_t numbers_length, int32_t k, uint32_t *cards,
+                        size_t cards_length);
 
 #ifdef __cplusplus
 }

@@ -1,11 +1,11 @@
 //! Tries the wrapper, and through it every call: document 01's cases, each refusal in its order, and what must stay as it was.
-//! Prints what failed and exits 1, or prints one line. What is wanted was written by hand from document 01.
+//! Prints what failed and exits 1, or prints one line. What is wanted was written by hand from documents 01 and 02.
 
 mod ullagreth;
 
 use std::fmt::Debug;
 use std::mem::{offset_of, size_of};
-use ullagreth::{lent, Candidate, Counts, Refusal, Table, MOST_POINTS, SLOTS, SLOT_WORDS, WORDS};
+use ullagreth::{lent, Candidate, Counts, Refusal, Table, MOST_K, MOST_POINTS, SLOTS, SLOT_WORDS, WORDS};
 
 const _: () = assert!(size_of::<Candidate>() == 24 && offset_of!(Candidate, number) == 0, "the size of a record, and the place of the number");
 const _: () = assert!(offset_of!(Candidate, x) == 8 && offset_of!(Candidate, y) == 12, "the places of x and y");
@@ -303,6 +303,133 @@ fn many_places(t: &mut Tally) {
     t.same(counts, [UNSAID; 4]);
 }
 
+// ---- cards
+
+/// A card: with room to spare, with just enough, with one place too few.
+#[track_caller]
+fn carded(t: &mut Tally, table: &Table, number: i32, k: i32, names: &[u32]) {
+    let before = table.clone();
+    for spare in [0, 1, MOST_K] {
+        let mut list = vec![UNSAID; names.len() + spare];
+        t.same(table.card(number, k, &mut list), Ok(names.len()));
+        t.same(&list[..names.len()], names);
+        t.same(&list[names.len()..], &vec![UNSAID; spare]);
+    }
+    if !names.is_empty() {
+        let mut list = vec![UNSAID; names.len() - 1];
+        t.same(table.card(number, k, &mut list), Err(Refusal::ShortList { n: names.len() }));
+        t.same(list, vec![UNSAID; names.len() - 1]);
+    }
+    t.same_words(table.words(), before.words());
+}
+
+fn cards_of_few(t: &mut Tally) {
+    let mut table = Table::empty();
+    enrolled(t, &mut table, &[(1, 0, 0)]);
+    carded(t, &table, 1, 1, &[]);
+    carded(t, &table, 1, 16, &[]);
+    enrolled(t, &mut table, &[(2, 4, 0), (3, 10, 0)]);
+    carded(t, &table, 2, 1, &[1]);
+    carded(t, &table, 2, 2, &[1, 3]);
+    carded(t, &table, 1, 16, &[2, 3]);
+    // 4 stands where 2 does: each is the other's nearest, and to 1 and 3 they are as near, so that the lower number decides.
+    enrolled(t, &mut table, &[(4, 4, 0)]);
+    carded(t, &table, 2, 1, &[4]);
+    carded(t, &table, 4, 2, &[2, 1]);
+    carded(t, &table, 1, 1, &[2]);
+    carded(t, &table, 3, 16, &[2, 4, 1]);
+    t.same(table.withdraw(2), Ok(()));
+    carded(t, &table, 1, 2, &[4, 3]);
+    carded(t, &table, 4, 1, &[1]);
+    // 2 is back, and behind 4 in the leaf.
+    enrolled(t, &mut table, &[(2, 4, 0)]);
+    carded(t, &table, 1, 1, &[2]);
+    carded(t, &table, 3, 16, &[2, 4, 1]);
+}
+
+/// Slot 0 holds 1 to 4, slot 1 holds 5 to 9. 4 and 6 are as near to 5, and 4 and 8 to 6: the lower number, though its box is no nearer.
+fn cards_of_nine(t: &mut Tally) {
+    let (table, _) = nine();
+    carded(t, &table, 5, 1, &[4]);
+    carded(t, &table, 5, 3, &[4, 6, 3]);
+    carded(t, &table, 5, 16, &[4, 6, 3, 7, 2, 8, 1, 9]);
+    carded(t, &table, 6, 3, &[5, 7, 4]);
+    carded(t, &table, 9, 2, &[8, 7]);
+    carded(t, &table, 1, 5, &[2, 3, 4, 5, 6]);
+    for (places, want) in [(0, vec![]), (1, vec![3]), (2, vec![3, 9])] {
+        let mut names = vec![9; places];
+        t.same(lent::card(table.words(), 6, 3, &mut [UNSAID; MOST_K], &mut names), 0);
+        t.same(names, want);
+    }
+}
+
+/// A card that is refused, with a list of no places: no names, and nothing changes.
+#[track_caller]
+fn uncarded(t: &mut Tally, table: &Table, number: i32, k: i32, want: Refusal) {
+    let before = table.clone();
+    t.same(table.card(number, k, &mut []), Err(want));
+    let (mut list, mut names) = ([UNSAID; MOST_K], [9; 2]);
+    t.same(lent::card(table.words(), number, k, &mut list, &mut names), want.number());
+    t.same((list, names), ([UNSAID; MOST_K], [0, 9]));
+    t.same_words(table.words(), before.words());
+}
+
+fn cards_refused(t: &mut Tally) {
+    let (table, _) = nine();
+    for bad in [0, 10_000, -1, i32::MAX, i32::MIN] {
+        uncarded(t, &table, bad, 0, Refusal::NoSuchNumber);
+        uncarded(t, &table, bad, 1, Refusal::NoSuchNumber);
+    }
+    for k in [0, 17, -1, i32::MAX, i32::MIN] {
+        uncarded(t, &table, 10, k, Refusal::NoSuchK);
+        uncarded(t, &table, 9, k, Refusal::NoSuchK);
+    }
+    uncarded(t, &table, 10, 1, Refusal::NotEnrolled);
+    uncarded(t, &table, 9_999, 16, Refusal::NotEnrolled);
+    uncarded(t, &Table::empty(), 1, 1, Refusal::NotEnrolled);
+    let mut words = table.words().to_vec();
+    words[1] = 10; // a point too many
+    uncarded(t, &Table::of_words(words.clone()), 0, 0, Refusal::NotWellFormed);
+    uncarded(t, &Table::of_words(words.clone()), 5, 1, Refusal::NotWellFormed);
+    words.push(0);
+    for length in [0, 1, WORDS - 1, WORDS + 1] {
+        uncarded(t, &Table::of_words(&words[..length]), 0, 0, Refusal::WrongLength);
+    }
+}
+
+/// 0 and 10 have no card, and their rows stay; so do the places behind the names, behind the last number, and behind the last whole stretch.
+fn many_cards(t: &mut Tally) {
+    const NO_CARD: [u32; MOST_K] = [UNSAID; MOST_K];
+    let (table, _) = nine();
+    let numbers = [5, 0, 6, 10, 9];
+    let wanted = [&[4, 6, 3][..], &[], &[5, 7, 4], &[], &[8, 7, 6], &[]].map(|names| {
+        let mut card = NO_CARD;
+        card[..names.len()].copy_from_slice(names);
+        card
+    });
+    for length in 0..=6 {
+        let mut cards = vec![NO_CARD; length];
+        t.same(table.cards(&numbers, 3, &mut cards), Ok(()));
+        t.same(&cards[..], &wanted[..length]);
+    }
+    for places in [3, 15, 16, 17, 47, 79, 95] {
+        let mut cards = vec![UNSAID; places];
+        t.same(lent::cards(table.words(), &numbers, 3, &mut cards), 0);
+        let whole = places / MOST_K * MOST_K;
+        t.same(&cards[..whole], &wanted.concat()[..whole]);
+        t.same(&cards[whole..], &vec![UNSAID; places - whole]);
+    }
+    let mut cards = [NO_CARD; 5];
+    t.same(table.cards(&[], 3, &mut cards), Ok(()));
+    t.same(table.cards(&numbers, 0, &mut cards), Ok(()));
+    t.same(table.cards(&numbers, 17, &mut cards), Ok(()));
+    let (short, mut damaged) = (&table.words()[1..], table.words().to_vec());
+    damaged[1] = 10;
+    t.same(Table::of_words(short).cards(&numbers, 3, &mut cards), Err(Refusal::WrongLength));
+    t.same(Table::of_words(damaged).cards(&numbers, 3, &mut cards), Err(Refusal::NotWellFormed));
+    t.same(cards, [NO_CARD; 5]);
+}
+
 fn main() {
     let mut t = Tally::default();
     the_empty_table(&mut t);
@@ -314,6 +441,10 @@ fn main() {
     changes_refused(&mut t);
     numbers(&mut t);
     many_places(&mut t);
+    cards_of_few(&mut t);
+    cards_of_nine(&mut t);
+    cards_refused(&mut t);
+    many_cards(&mut t);
     if t.failed > 0 {
         println!("the Rust wrapper: {} of {} checks failed", t.failed, t.checks);
         std::process::exit(1);

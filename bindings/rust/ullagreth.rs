@@ -5,11 +5,13 @@
 
 use std::fmt;
 
-/// The words of a table, its slots, the words of a slot, the most points. Lists of `MOST_POINTS` are never refused.
+/// The words of a table, its slots, the words of a slot, the most points, the most k and so the most names on a card. A query's lists of
+/// `MOST_POINTS` are never refused, nor is a card's of `MOST_K`.
 pub const WORDS: usize = 10_754;
 pub const SLOTS: usize = 256;
 pub const SLOT_WORDS: usize = 42;
 pub const MOST_POINTS: usize = 500;
+pub const MOST_K: usize = 16;
 
 /// A record of the candidate list, laid out as the library has it: 24 bytes without a hole.
 #[repr(C)]
@@ -42,7 +44,7 @@ pub enum Refusal {
     Full,
     NotEnrolled,
     FewCandidates,
-    /// The only refusal that has a count: so many answers there are.
+    /// The only refusal that has a count: so many answers there are, or so many names on the card.
     ShortList { n: usize },
     /// This one and the next are of the job sheet: no call here gives them.
     Misshapen,
@@ -62,7 +64,7 @@ impl Refusal {
             Refusal::Full => (7, "500 points enrolled"),
             Refusal::NotEnrolled => (8, "point not enrolled"),
             Refusal::FewCandidates => (9, "candidate list shorter than the points enrolled"),
-            Refusal::ShortList { .. } => (10, "answer list shorter than n"),
+            Refusal::ShortList { .. } => (10, "list shorter than what it is to get"),
             Refusal::Misshapen => (11, "misshapen line"),
             Refusal::SheetTooLong => (12, "sheet longer than 65,536 bytes"),
         }
@@ -150,6 +152,23 @@ impl Table {
     pub fn sites(&self, xs: &[i32], ys: &[i32], k: i32, counts: &mut [u32]) -> Result<(), Refusal> {
         granted(lent::sites(&self.0, xs, ys, k, counts), 0)
     }
+
+    /// The card of the station with a number: its k nearest other holders by squared distance, equal distances by lower number; fewer if fewer
+    /// are enrolled. `list[..n]` are their numbers, nearest first, and the rest stays; n is given back. A refusal (1, 2, 3, 5, 8, 10) leaves
+    /// the list as it was.
+    pub fn card(&self, number: i32, k: i32, list: &mut [u32]) -> Result<usize, Refusal> {
+        let mut names = [0];
+        let given = lent::card(&self.0, number, k, list, &mut names);
+        let [n] = names.map(|count| count as usize);
+        granted(given, n).map(|()| n)
+    }
+
+    /// For each i below the lesser length the card of `numbers[i]` goes to the front of `cards[i]`, whose rest stays, and all of it where that
+    /// card is refused: in rows of zeros a card ends at its first zero. The table is checked once, and a refusal (1, 2) leaves every card as it
+    /// was.
+    pub fn cards(&self, numbers: &[i32], k: i32, cards: &mut [[u32; MOST_K]]) -> Result<(), Refusal> {
+        granted(lent::cards(&self.0, numbers, k, cards.as_flattened_mut()), 0)
+    }
 }
 
 /// The calls over lent rows. Each gives document 01's number.
@@ -189,6 +208,25 @@ pub mod lent {
             k: i32,
             counts: *mut u32,
             counts_length: usize,
+        ) -> u8;
+        fn ullagreth_card(
+            table: *const i32,
+            table_length: usize,
+            number: i32,
+            k: i32,
+            list: *mut u32,
+            list_length: usize,
+            names: *mut u64,
+            names_length: usize,
+        ) -> u8;
+        fn ullagreth_cards(
+            table: *const i32,
+            table_length: usize,
+            numbers: *const i32,
+            numbers_length: usize,
+            k: i32,
+            cards: *mut u32,
+            cards_length: usize,
         ) -> u8;
     }
 
@@ -243,5 +281,17 @@ pub mod lent {
                 counts.len(),
             )
         }
+    }
+
+    /// The first place of `names` becomes how many names the card has, and 0 where it is refused (but for 10); a row of none stays.
+    pub fn card(table: &[i32], number: i32, k: i32, list: &mut [u32], names: &mut [u64]) -> u8 {
+        // SAFETY: three slices, and the borrows keep the two that are written apart from each other and from the table.
+        unsafe { ullagreth_card(table.as_ptr(), table.len(), number, k, list.as_mut_ptr(), list.len(), names.as_mut_ptr(), names.len()) }
+    }
+
+    /// Each number has a stretch of `MOST_K` places; what is left behind the last whole one stays.
+    pub fn cards(table: &[i32], numbers: &[i32], k: i32, cards: &mut [u32]) -> u8 {
+        // SAFETY: three slices, and the borrows keep the one that is written apart from the two that are read.
+        unsafe { ullagreth_cards(table.as_ptr(), table.len(), numbers.as_ptr(), numbers.len(), k, cards.as_mut_ptr(), cards.len()) }
     }
 }
