@@ -1,3 +1,4 @@
 pub mod Telling
 pub mod SiteLaws
 pub mod Once
+pub mod CardLaws

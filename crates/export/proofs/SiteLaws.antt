@@ -24,6 +24,7 @@ use Rattle.desk.proofs.CallAlone.{blank-long}
 use Rattle.refusals.proofs.Given.{if-refused}
 use Rattle.desk.proofs.Granted.{query-granted}
 use Rattle.export.specs.Sites.{sitesOf, siteCount, countsAt, countsOver, sitesAfter}
+use Rattle.export.proofs.Telling.{check-refuses, check-passes}
 
 -- ---- one place
 
@@ -109,8 +110,8 @@ module _ (ws : Words) (k : ℤ) (xs ys : List ℤ) where
   module _ (row : List ℕ) {g : Given} (e : g ≡ checkGives ws) where
     pub sites-refused : (g ≡ Done → ⊥) → row ≡ sitesAfter ws k xs ys row
     unfolding sitesAfter
-    sites-refused d = sym (if-refused (checkGives ws) (λ h. d (e ∙ h)) _ _)
+    sites-refused d = check-refuses ws e d (countsOver ws k xs ys row) row
 
     pub sites-done : g ≡ Done → countsOver ws k xs ys row ≡ sitesAfter ws k xs ys row
     unfolding sitesAfter
-    sites-done d = rw (sym e ∙ d)
+    sites-done d = check-passes ws e d (countsOver ws k xs ys row) row

@@ -1,20 +1,28 @@
--- What a query's caller is told, from what the desk promises: each part of it, and the three counts written one after the other. Assumes nothing.
+-- What the caller of a query or a card is told, from what the desk promises: each part of it, and the counts written one after the other. And what a call for many leaves, by what the check gives. Assumes nothing.
 use Prim.Native.Nat.{ℕ, _≤_, _<_}
 use native.Mathlib.Omega.{arith}
-use mathlib.Core.Path.{_≡_, refl, ap, _∙_}
+use mathlib.Core.Path.{_≡_, refl, sym, ap, _∙_}
 use mathlib.Core.List.{List, [], _∷_}
 use lib.IntN.{ℤ}
 use lib.ListN.{length, set}
 use borrow.Author.Tests.{lt-ltb, le-ltb}
 use Rattle.grid.specs.Site.{Site}
+use Rattle.table.specs.declared.given.Given.{Given}
+use Rattle.table.specs.declared.given.Given.the-variants.{Done}
 use Rattle.table.specs.Words.{Words}
 use Rattle.table.specs.Given.{numberGiven}
+use Rattle.audit.specs.Check.{checkGives}
 use Rattle.filter.specs.Query.{Counts, laidOver}
 use Rattle.record.specs.declared.Candidate.{Candidate}
 use Rattle.refusals.specs.declared.answered.Answered.{Answered}
-use Rattle.desk.specs.Calls.{Queried}
+use Rattle.refusals.specs.declared.carding.Carded.{Carded}
+use Rattle.refusals.specs.Cases.{ifDone}
+use Rattle.refusals.proofs.Given.{if-refused}
+use Rattle.desk.specs.Calls.{Queried, Listed}
 use Rattle.desk.specs.Lent.{Answers}
+use Rattle.desk.specs.Carding.{Cards}
 use Rattle.export.specs.Told.{countsLaid, Told}
+use Rattle.export.specs.Cards.{namesLaid, ToldCard}
 
 -- ---- the counts
 
@@ -30,6 +38,16 @@ counts-none c row h = rw (lt-ltb (length row) 3 h)
 pub counts-three : (c : Counts) (row : List ℕ) → 3 ≤ length row → set (set (set row 0 (c .n)) 1 (c .m)) 2 (c .o) ≡ countsLaid c row
 counts-three c row h = rw (le-ltb (length row) 3 h) (three-set row (c .n) (c .m) (c .o) h)
 
+pub names-none : (n : ℕ) (row : List ℕ) → length row < 1 → row ≡ namesLaid n row
+names-none n row h = rw (lt-ltb (length row) 1 h)
+
+one-set : (row : List ℕ) (n : ℕ) → 1 ≤ length row → set row 0 n ≡ laidOver (n ∷ []) row
+one-set [] n h = absurd (omega arith)
+one-set (x ∷ row) n h = refl
+
+pub names-one : (n : ℕ) (row : List ℕ) → 1 ≤ length row → set row 0 n ≡ namesLaid n row
+names-one n row h = rw (le-ltb (length row) 1 h) (one-set row n h)
+
 -- ---- all that is told
 
 pub telling : (ws : Words) (q : Site) (k : ℤ) (before after : List Candidate) (old new row told : List ℕ) (a : Answered) (r : ℕ)
@@ -41,3 +59,20 @@ telling ws q k before after old new row told a r s g c = record {
   answers = ap (λ (z : Queried). z .answers) s;
   counts = c ∙ ap (λ (z : Queried). countsLaid (z .counts) row) s;
 }
+
+pub telling-card : (ws : Words) (n k : ℤ) (old new row told : List ℕ) (c : Carded) (r : ℕ)
+    → Cards ws n k old new c → r ≡ numberGiven (c .given) → told ≡ namesLaid (c .names) row → ToldCard ws n k old new row told r
+telling-card ws n k old new row told c r s g t = record {
+  given = g ∙ ap (λ (z : Listed). numberGiven (z .given)) s;
+  list = ap (λ (z : Listed). z .list) s;
+  names = t ∙ ap (λ (z : Listed). namesLaid (z .names) row) s;
+}
+
+-- ---- a call for many, by what the check gives
+
+module _ (ws : Words) {g : Given} (e : g ≡ checkGives ws) where
+  pub check-refuses : (g ≡ Done → ⊥) → {A : Type 0} (a b : A) → b ≡ ifDone (checkGives ws) a b
+  check-refuses d a b = sym (if-refused (checkGives ws) (λ h. d (e ∙ h)) a b)
+
+  pub check-passes : g ≡ Done → {A : Type 0} (a b : A) → a ≡ ifDone (checkGives ws) a b
+  check-passes d a b = rw (sym e ∙ d)

@@ -136,12 +136,7 @@ pub extern "C" fn ullagreth_card(
 
 // The cards of many stations, for one check of the table: number i has the i-th stretch of sixteen places.
 #[no_mangle]
-pub extern "C" fn ullagreth_cards(
-    table: &[i32],
-    numbers: &[i32],
-    k: i32,
-    cards: &mut [u32],
-) -> u8
+pub extern "C" fn ullagreth_cards(table: &[i32], numbers: &[i32], k: i32, cards: &mut [u32]) -> u8
     ensures given { λ r. ⌜ r ≡ numberGiven (checkGives (now (table .entry))) ⌝ }
     ensures cards { λ _. ⌜ now (cards .exit) ≡ cardsAfter (now (table .entry)) k (now (numbers .entry)) (now (cards .entry)) ⌝ }
 {
