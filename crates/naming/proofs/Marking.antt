@@ -6,20 +6,22 @@ use mathlib.Core.Path.{_≡_, refl, sym, ap, subst, _∙_}
 use mathlib.Core.Bool.{Bool, true, false, cond}
 use mathlib.Core.List.{List, [], _∷_, _++_, map, map-append, append-nil}
 use lib.Dec.{eqb}
-use lib.ListN.{length, take, getD, length-append}
-use lib.Seq.{take-suc, take-all}
+use lib.ListN.{length, take, drop, getD, length-append, take-append-drop}
+use lib.Seq.{take-suc, take-all, drop-cons}
 use borrow.Author.Tests.{eq-eqb, ne-eqb}
 use Rattle.grid.specs.declared.place.Place.{Place}
 use Rattle.grid.specs.declared.rect.Rect.{Rect}
 use Rattle.grid.specs.Place.{Inside, dist², leastSquare}
 use Rattle.grid.proofs.Rects.{dist-sym, least-square-least}
-use Rattle.order.specs.Lists.{filter, join, All, Rises}
+use Rattle.order.specs.Lists.{filter, join, All, Pairwise, Rises}
 use Rattle.order.specs.Order.{Perm, least}
 use Rattle.order.proofs.Perm.{perm-map}
 use Rattle.order.proofs.Order.{sort-perm}
-use Rattle.order.proofs.Lists.{join-append, perm-join, perm-count, all-map, all-then, all-mem, mem-all, filter-mem, count-append}
+use Rattle.order.proofs.Lists.{join-append, perm-join, perm-count, all-map, all-then, all-both, all-drop, all-perm, all-mem, mem-all, filter-mem, count-append}
+use Rattle.order.proofs.Pairwise.{pairwise-drop, sort-rises}
 use Rattle.order.proofs.Least.{upTo, rises-last, least-rises, least-length, least-same, least-row, least-more, least-beyond}
 use Rattle.table.specs.declared.node.Entry.{Entry}
+use Rattle.rules.proofs.Joined.{all-join}
 use Rattle.filter.specs.Walk.{spotIn, nearestFirst}
 use Rattle.filter.proofs.Taken.{taken-length}
 use Rattle.filter.proofs.Rising.{filter-append, perm-filter}
@@ -54,16 +56,13 @@ module _ (number : ℕ) (p : Place) where
       let ns = map (markFrom p) (filter (isAnother number) ys) in
       least-same k (ms ++ row) (ns ++ row) (λ v. omega (arith, same (upTo v), count-append (upTo v) ms row, count-append (upTo v) ns row))
 
-  -- no point in a box is nearer than the box
-  pub marks-beyond : (r : Rect) (es : List Entry) (last : ℕ) → All (λ c. Inside (spotIn c) r) es → squareIn last < leastSquare r p
-      → All (λ m. last ≤ m) (marksOf number p es)
+  -- points further away than the last
+  marks-beyond : (es : List Entry) (last : ℕ) → All (λ c. squareIn last < dist² (spotIn c) p) es → All (λ m. last ≤ m) (marksOf number p es)
   unfolding marksOf markFrom
-  marks-beyond r es last inside h =
+  marks-beyond es last far =
       all-map (λ m. last ≤ m) (markFrom p) (filter (isAnother number) es)
       (all-mem (λ c. last ≤ markFrom p c) (filter (isAnother number) es)
-      (λ c m.
-      let away : leastSquare r p ≤ dist² (spotIn c) p = rw (dist-sym (spotIn c) p) (least-square-least p (mem-all (λ c. Inside (spotIn c) r) es inside (filter-mem (isAnother number) es m .0))) in
-      omega arith))
+      (λ c m. let h = mem-all (λ c. squareIn last < dist² (spotIn c) p) es far (filter-mem (isAnother number) es m .0) in omega arith))
 
 -- ---- the best after the first of a node's entries: S has the points below an entry
 
@@ -102,16 +101,36 @@ module _ (number : ℕ) (p : Place) (S : Entry → List Entry) (xs : List Entry)
       ∙ least-more (length row) more (first i) row
       ∙ ap (λ l. least (length row) (l ++ row)) (sym (first-next i d h))
 
-  -- an entry whose box is passed by
-  pub sofar-beyond : (i : ℕ) (best : List ℕ) (d : Entry) (r : Rect) → i < length xs → SoFar i best → 0 < length row
-      → All (λ c. Inside (spotIn c) r) (S (getD xs i d)) → squareIn (getD best (length best - 1) 0) < leastSquare r p → SoFar (i + 1) best
-  sofar-beyond i best d r h e some inside far =
-      let more = marksOf number p (S (getD xs i d)) in
+  -- a box that lies further away than the last: no point in it is nearer than the box, and the boxes behind it are no nearer
+  abbrev away : Entry → ℕ
+  away e = leastSquare (e .rect) p
+
+  far-points : (es : List Entry) (last : ℕ) → All (λ e. All (λ c. Inside (spotIn c) (e .rect)) (S e)) es → All (λ e. squareIn last < away e) es
+      → All (λ c. squareIn last < dist² (spotIn c) p) (join S es)
+  far-points es last inside far =
+      all-join (λ c. squareIn last < dist² (spotIn c) p) S es
+      (all-then (λ e. All (λ c. Inside (spotIn c) (e .rect)) (S e) × (squareIn last < away e)) (λ e. All (λ c. squareIn last < dist² (spotIn c) p) (S e))
+      (λ e h.
+      all-then (λ c. Inside (spotIn c) (e .rect)) (λ c. squareIn last < dist² (spotIn c) p)
+      (λ c i. let near : away e ≤ dist² (spotIn c) p = rw (dist-sym (spotIn c) p) (least-square-least p i) in omega (arith, h .1)) (S e) (h .0))
+      es (all-both (λ e. All (λ c. Inside (spotIn c) (e .rect)) (S e)) (λ e. squareIn last < away e) es inside far))
+
+  pub sofar-beyond : (i : ℕ) (best : List ℕ) (d : Entry) → i < length xs → SoFar i best → 0 < length row → All (λ e. All (λ c. Inside (spotIn c) (e .rect)) (S e)) xs
+      → Pairwise (λ a b. away a ≤ away b) xs → squareIn (getD best (length best - 1) 0) < away (getD xs i d) → best ≡ least (length row) (marksOf number p (join S xs) ++ row)
+  sofar-beyond i best d h e some inside rises far =
       let last = getD best (length best - 1) 0 in
       let below = rises-last best (length best - 1) (omega (arith, sofar-long i best e)) (sofar-rises i best e) in
+      let rest = drop i xs in
+      let here : rest ≡ getD xs i d ∷ drop (suc i) xs = drop-cons xs i d h in
+      let lies : Pairwise (λ a b. away a ≤ away b) (getD xs i d ∷ drop (suc i) xs) = subst (Pairwise (λ a b. away a ≤ away b)) here (pairwise-drop (λ a b. away a ≤ away b) i xs rises) in
+      let all-far : All (λ e. squareIn last < away e) rest =
+      rw here (far, all-then (λ b. away (getD xs i d) ≤ away b) (λ b. squareIn last < away b) (λ b l. omega arith) (drop (suc i) xs) (lies .0)) in
+      let more = marksOf number p (join S rest) in
       e
-      ∙ least-beyond (length row) more (first i) row (omega arith) last (subst (λ l. All (λ n. n ≤ last) l) e below) (marks-beyond number p r (S (getD xs i d)) last inside far)
-      ∙ ap (λ l. least (length row) (l ++ row)) (sym (first-next i d h))
+      ∙ least-beyond (length row) more (first i) row (omega arith) last (subst (λ l. All (λ n. n ≤ last) l) e below)
+      (marks-beyond number p (join S rest) last (far-points rest last (all-drop (λ e. All (λ c. Inside (spotIn c) (e .rect)) (S e)) i xs inside) all-far))
+      ∙ ap (λ l. least (length row) (l ++ row))
+      (sym (marks-append number p (join S (take i xs)) (join S rest)) ∙ ap (marksOf number p) (sym (join-append S (take i xs) rest) ∙ ap (join S) (take-append-drop i xs)))
 
   pub sofar-all : (i : ℕ) (best : List ℕ) → length xs ≤ i → SoFar i best → best ≡ least (length row) (marksOf number p (join S xs) ++ row)
   sofar-all i best h e = e ∙ ap (λ l. least (length row) (marksOf number p (join S l) ++ row)) (take-all i xs h)
@@ -121,6 +140,18 @@ module _ (number : ℕ) (p : Place) (S : Entry → List Entry) (es : List Entry)
   first-perm : Perm (nearestFirst p 0 es) es
   unfolding nearestFirst
   first-perm = sort-perm (λ e. leastSquare (e .rect) p) es
+
+  first-rises : Pairwise (λ a b. leastSquare (a .rect) p ≤ leastSquare (b .rect) p) (nearestFirst p 0 es)
+  unfolding nearestFirst
+  first-rises = sort-rises (λ e. leastSquare (e .rect) p) es
+
+  -- the first that lies beyond ends it
+  pub sofar-ends : (i : ℕ) (best : List ℕ) (d : Entry) → i < length es → SoFar number p S (nearestFirst p 0 es) row i best → 0 < length row → All (λ e. All (λ c. Inside (spotIn c) (e .rect)) (S e)) es
+      → squareIn (getD best (length best - 1) 0) < leastSquare (getD (nearestFirst p 0 es) i d .rect) p → best ≡ least (length row) (marksOf number p (join S es) ++ row)
+  sofar-ends i best d h e some inside far =
+      sofar-beyond number p S (nearestFirst p 0 es) row i best d (omega (arith, taken-length es p 0)) e some
+      (all-perm (λ e. All (λ c. Inside (spotIn c) (e .rect)) (S e)) first-perm inside) first-rises far
+      ∙ least-perm number p (length row) row (perm-join S first-perm)
 
   pub sofar-node : (i : ℕ) (best : List ℕ) → length es ≤ i → SoFar number p S (nearestFirst p 0 es) row i best
       → best ≡ least (length row) (marksOf number p (join S es) ++ row)

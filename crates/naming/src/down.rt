@@ -82,11 +82,12 @@ pub fn offer_below(
     while i < count {
         let at = row[i];
         let e = entry_at(table, slot, at);
-        i += 1;
+        // The entries behind it lie no nearer.
         if is_beyond(best, e.rect.least_square(p)) {
-            continue;
+            return;
         }
         let child = e.reference;
         offer_below(table, child, level - 1, number, p, best);
+        i += 1;
     }
 }

@@ -6,8 +6,8 @@ use mathlib.Core.List.{List, _++_}
 use lib.ListN.{length, getD}
 use borrow.Author.Needs.{needs}
 use borrow.Author.Tests.{ltb-true}
-use Rattle.grid.specs.Place.{RectOnGrid, leastSquare}
-use Rattle.order.specs.Lists.{join}
+use Rattle.grid.specs.Place.{Inside, RectOnGrid, leastSquare}
+use Rattle.order.specs.Lists.{join, All}
 use Rattle.order.specs.Order.{least}
 use Rattle.order.proofs.Lists.{all-then}
 use Rattle.table.specs.declared.node.Entry.{Entry}
@@ -15,13 +15,13 @@ use Rattle.table.specs.Words.{Words}
 use Rattle.table.specs.Page.{blankEntry}
 use Rattle.table.specs.Slots.{entriesAt}
 use Rattle.table.proofs.Slots.{page-few}
-use Rattle.filter.specs.Walk.{nearestFirst}
+use Rattle.filter.specs.Walk.{spotIn, nearestFirst}
 use Rattle.filter.proofs.Taken.{taken-below, taken-at, taken-length}
 use Rattle.filter.proofs.NodeTurns.{passable-slot, passable-zero, passable-above, IsChild}
 use Rattle.vetting.specs.Test.{below}
-use Rattle.vetting.proofs.Below.{below-zero, below-above, Box, child-at}
+use Rattle.vetting.proofs.Below.{below-zero, below-above, Box, boxed-above, child-at}
 use Rattle.naming.specs.Holders.{squareIn, marksOf}
-use Rattle.naming.proofs.Marking.{SoFar, sofar-none, sofar-rises, sofar-long, sofar-next, sofar-beyond, sofar-node}
+use Rattle.naming.proofs.Marking.{SoFar, sofar-none, sofar-rises, sofar-long, sofar-next, sofar-ends, sofar-node}
 use borrow.Fn.Kinds.{In}
 use borrow.Fn.PlainCycle.{Measures, is, falls, and}
 use Rattle.naming.proofs.down.offer_below.Reads as offer-below
@@ -189,9 +189,6 @@ entry-at-requires t c κs =
     let s = c .before .before .before .before .before .before in
     (s .pre .1 .0 .0, passable-slot (s .args .level) (s .args .table .now) (s .args .slot) (s .pre .1 .0 .2), place-inside t c)
 
-add-i : (t : ℕ) → lts.Need-add-i (knows t) (here t) offer-below.Post Inv-loop μ-loop
-add-i t c = search needs
-
 least-square-requires : (t : ℕ) → lts.Need-least-square-requires (knows t) (here t) offer-below.Post Inv-loop μ-loop
 least-square-requires t c κs =
     let e = c .before in
@@ -202,24 +199,26 @@ is-beyond-requires t c κs =
     let l = c .before .before .before .before in
     omega (arith, best-long t l, l .before .before .before .before .before .pre .1 .1 .0)
 
-loop-less : (t : ℕ) → lts.Need-loop-less (knows t) (here t) offer-below.Post Inv-loop μ-loop
-loop-less t c = search needs
+same-length-2 : (t : ℕ) → lts.Need-same-length-2 (knows t) (here t) offer-below.Post Inv-loop μ-loop
+same-length-2 t c = best-long t (c .before .before .before .before .before .before)
 
-loop-again : (t : ℕ) → lts.Need-loop-again (knows t) (here t) offer-below.Post Inv-loop μ-loop
-loop-again t c =
+returns-2 : (t : ℕ) → lts.Need-returns-2 (knows t) (here t) offer-below.Post Inv-loop μ-loop
+returns-2 t c =
     let b = c .before in
     let q = b .before in
     let e = q .before .before in
     let l = e .before .before in
-    let s = l .before .before .before .before .before in
+    let f = l .before .before .before in
+    let s = f .before .before in
     let a = s .args in
-    let r = e .entry-at .result .rect in
-    let far : squareIn (getD (l .loop .best) (length (l .loop .best) - 1) 0) < leastSquare r (a .p) =
-    rw (← (q .least-square .ensures)) (ltb-true _ _ (sym (b .is-beyond .ensures) ∙ c .if2 .taken)) in (
-      omega (arith, e .before .loop-test .taken),
-      sofar-beyond (a .number) (a .p) (under (a .table .now) (a .level)) (nearestFirst (a .p) 0 (entriesAt (a .table .now) (a .slot))) (a .best .now)
-          (l .loop .i) (l .loop .best) blankEntry r (in-order t e) (l .loop .inv .1) (s .pre .1 .1 .0) (rw (← (taken t e)) (child-here t e .1 .0)) far,
-    )
+    let es = entriesAt (a .table .now) (a .slot) in
+    let far : squareIn (getD (l .loop .best) (length (l .loop .best) - 1) 0) < leastSquare (e .entry-at .result .rect) (a .p) =
+    rw (← (q .least-square .ensures)) (ltb-true _ _ (sym (b .is-beyond .ensures) ∙ c .if2 .taken)) in
+    rw (below-above (a .table .now) (a .slot) (a .level) (omega (arith, f .if1 .left)))
+    (sofar-ends (a .number) (a .p) (under (a .table .now) (a .level)) es (a .best .now) (l .loop .i) (l .loop .best) blankEntry (inside t (e .before)) (l .loop .inv .1) (s .pre .1 .1 .0)
+    (all-then (Box (a .table .now) (a .level - 1)) (λ e. All (λ c. Inside (spotIn c) (e .rect)) (under (a .table .now) (a .level) e)) (λ e h. h .0) es
+    (boxed-above (a .table .now) (a .slot) (a .level) (omega (arith, f .if1 .left)) (s .pre .1 .0 .3)))
+    (subst (λ (e : Entry). squareIn (getD (l .loop .best) (length (l .loop .best) - 1) 0) < leastSquare (e .rect) (a .p)) (taken t e) far))
 
 sub-offer-below : (t : ℕ) → lts.Need-sub-offer-below (knows t) (here t) offer-below.Post Inv-loop μ-loop
 sub-offer-below t c = search needs
@@ -242,11 +241,14 @@ offer-below-requires t c κs =
       ),
     )
 
-loop-less-2 : (t : ℕ) → lts.Need-loop-less-2 (knows t) (here t) offer-below.Post Inv-loop μ-loop
-loop-less-2 t c = search needs
+add-i : (t : ℕ) → lts.Need-add-i (knows t) (here t) offer-below.Post Inv-loop μ-loop
+add-i t c = search needs
 
-loop-again-2 : (t : ℕ) → lts.Need-loop-again-2 (knows t) (here t) offer-below.Post Inv-loop μ-loop
-loop-again-2 t c =
+loop-less : (t : ℕ) → lts.Need-loop-less (knows t) (here t) offer-below.Post Inv-loop μ-loop
+loop-less t c = search needs
+
+loop-again : (t : ℕ) → lts.Need-loop-again (knows t) (here t) offer-below.Post Inv-loop μ-loop
+loop-again t c =
     let o = c .before .before in
     let f = o .before .before in
     let e = f .before .before .before .before in
@@ -259,12 +261,12 @@ loop-again-2 t c =
           (o .offer-below .ensures ∙ ap (λ (e : Entry). least (length best) (marksOf (a .number) (a .p) (S e) ++ best)) (taken t e)),
     )
 
-same-length-2 : (t : ℕ) → lts.Need-same-length-2 (knows t) (here t) offer-below.Post Inv-loop μ-loop
-same-length-2 t c =
+same-length-3 : (t : ℕ) → lts.Need-same-length-3 (knows t) (here t) offer-below.Post Inv-loop μ-loop
+same-length-3 t c =
     best-long t (c .before)
 
-returns-2 : (t : ℕ) → lts.Need-returns-2 (knows t) (here t) offer-below.Post Inv-loop μ-loop
-returns-2 t c =
+returns-3 : (t : ℕ) → lts.Need-returns-3 (knows t) (here t) offer-below.Post Inv-loop μ-loop
+returns-3 t c =
     let l = c .before in
     let n = l .before in
     let f = n .before .before in
@@ -288,14 +290,14 @@ pub +offer-below-spec : {M : Type 1} → statement M
     (mul-at t)
     (array-read-at t)
     (entry-at-requires t)
-    (add-i t)
     (least-square-requires t)
     (is-beyond-requires t)
-    (loop-less t)
-    (loop-again t)
-    (sub-offer-below t)
-    (offer-below-requires t)
-    (loop-less-2 t)
-    (loop-again-2 t)
     (same-length-2 t)
     (returns-2 t)
+    (sub-offer-below t)
+    (offer-below-requires t)
+    (add-i t)
+    (loop-less t)
+    (loop-again t)
+    (same-length-3 t)
+    (returns-3 t)
