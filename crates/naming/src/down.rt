@@ -1,4 +1,4 @@
-// Down the tree for a card: the entries of a node nearest first, past each box that cannot hold a better holder than those found.
+// Down the tree for a card: the entries of a node nearest first, up to the first box that cannot hold a better holder than those found.
 ghost use mathlib.Core.Path.{_≡_};
 ghost use mathlib.Core.Bool.{true};
 ghost use mathlib.Core.List.{[], _∷_, _++_};
