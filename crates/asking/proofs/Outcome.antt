@@ -10,7 +10,7 @@ use lib.ListN.{length, getD, take, drop, length-map, length-append, List·getD-a
 use lib.Seq.{take-at}
 use borrow.Author.Tests.{eqb-true}
 use Rattle.words.specs.Word.{wordOf, natOf}
-use Rattle.grid.specs.Nearer.{nearer, nearerTo}
+use Rattle.grid.specs.AsNear.{asNear, asNearTo}
 use Rattle.grid.specs.Place.{dist², spotOf}
 use Rattle.grid.specs.Site.{Site, placeOf}
 use Rattle.words.proofs.Words.{steps-word}
@@ -46,7 +46,7 @@ use Rattle.vetting.proofs.Testing.{count-same, passes-answers}
 use Rattle.record.specs.declared.Candidate.{Candidate}
 use Rattle.record.specs.Blank.{none}
 use Rattle.asking.specs.Records.{candidateIn, candidatesIn}
-use Rattle.vetting.specs.Tested.{entryOf, passesAs, nearerAs, nearerAmong, numbersPassing, Keepable}
+use Rattle.vetting.specs.Tested.{entryOf, passesAs, asNearToIt, asNearAmong, numbersPassing, Keepable}
 use Rattle.asking.specs.Asked.{Filled, Listed}
 
 candidate-ext : {c d : Candidate} → c .number ≡ d .number → c .x ≡ d .x → c .y ≡ d .y → c .square ≡ d .square → c ≡ d
@@ -113,21 +113,21 @@ module _ {ws : Words} (t : Passing ws) where
         entry-ext refl
         (ap spotOf (place-ext (steps-word (e .rect .x .low) (omega (arith, p .x .grid))) (steps-word (e .rect .y .low) (omega (arith, p .y .grid)))) ∙ sym (point-spot p))
 
-    -- what is nearer by the records is nearer by the walk's test
-    near-as : (e : Entry) → isPoint e ≡ true → (c : Entry) → isPoint c ≡ true → nearerAs (recordOf q e) (recordOf q c) ≡ nearerTo (spotIn e) (spotIn c) (placeOf q)
-    unfolding nearerAs nearerTo
+    -- what is as near by the records is as near by the walk's test
+    near-as : (e : Entry) → isPoint e ≡ true → (c : Entry) → isPoint c ≡ true → asNearToIt (recordOf q e) (recordOf q c) ≡ asNearTo (spotIn e) (spotIn c) (placeOf q)
+    unfolding asNearToIt asNearTo
     near-as e h c i =
-        ap (λ (d : Entry). nearer (dist² (spotIn d) (spotIn (entryOf (recordOf q e)))) (dist² (placeOf q) (spotIn e))) (entry-back c i)
-        ∙ ap (λ (d : Entry). nearer (dist² (spotIn c) (spotIn d)) (dist² (placeOf q) (spotIn e))) (entry-back e h)
+        ap (λ (d : Entry). asNear (dist² (spotIn d) (spotIn (entryOf (recordOf q e)))) (dist² (placeOf q) (spotIn e))) (entry-back c i)
+        ∙ ap (λ (d : Entry). asNear (dist² (spotIn c) (spotIn d)) (dist² (placeOf q) (spotIn e))) (entry-back e h)
 
-    near-among : (e : Entry) → isPoint e ≡ true → nearerAmong (recordsFound ws q k) (recordOf q e) ≡ count (λ c. nearerTo (spotIn e) (spotIn c) (placeOf q)) (found ws q k .candidates)
-    unfolding nearerAmong
+    near-among : (e : Entry) → isPoint e ≡ true → asNearAmong (recordsFound ws q k) (recordOf q e) ≡ count (λ c. asNearTo (spotIn e) (spotIn c) (placeOf q)) (found ws q k .candidates)
+    unfolding asNearAmong
     near-among e h =
         let cs = found ws q k .candidates in
-        let near : Entry → Bool = λ c. nearerAs (recordOf q e) (recordOf q c) in
-        count-map (nearerAs (recordOf q e)) (recordOf q) cs
-        ∙ count-same near (λ c. nearerTo (spotIn e) (spotIn c) (placeOf q)) cs
-        (all-then (λ c. isPoint c ≡ true) (λ c. near c ≡ nearerTo (spotIn e) (spotIn c) (placeOf q)) (near-as e h) cs points)
+        let near : Entry → Bool = λ c. asNearToIt (recordOf q e) (recordOf q c) in
+        count-map (asNearToIt (recordOf q e)) (recordOf q) cs
+        ∙ count-same near (λ c. asNearTo (spotIn e) (spotIn c) (placeOf q)) cs
+        (all-then (λ c. isPoint c ≡ true) (λ c. near c ≡ asNearTo (spotIn e) (spotIn c) (placeOf q)) (near-as e h) cs points)
 
     pass-as : (e : Entry) → isPoint e ≡ true → passesAs ws k (recordOf q e) ≡ answersTo (stations ws) q k (stationOfEntry e)
     unfolding passesAs
@@ -135,8 +135,8 @@ module _ {ws : Words} (t : Passing ws) where
         ap (λ (d : Entry). passes ws (d .reference) (spotIn d) (dist² (placeOf q) (spotIn e)) k) (entry-back e h)
         ∙ passes-answers ws (t .long) (t .words) (t .rules) q g k e h
 
-    -- a record with more than k of them nearer does not pass
-    crowded-as : (e : Entry) → isPoint e ≡ true → k < nearerAmong (recordsFound ws q k) (recordOf q e) → passesAs ws k (recordOf q e) ≡ false
+    -- a record with more than k of them as near does not pass
+    crowded-as : (e : Entry) → isPoint e ≡ true → k < asNearAmong (recordsFound ws q k) (recordOf q e) → passesAs ws k (recordOf q e) ≡ false
     crowded-as e h l = pass-as e h ∙ found-crowded ws (t .long) (t .words) (t .rules) q g k e h (omega (arith, l, near-among e h))
 
     -- those that pass, in rising order, are the answers
@@ -184,8 +184,8 @@ module _ {ws : Words} (t : Passing ws) where
         };
         crowded = λ i l.
             let e = getD (found ws q k .candidates) i blankEntry in
-            let C : Candidate → Type 0 = λ c. k < nearerAmong (take (s .candidates) list) c → passesAs ws k c ≡ false in
-            subst C (sym (record-back i l)) (λ n. crowded-as e (point-at i l) (subst (λ (cs : List Candidate). k < nearerAmong cs (recordOf q e)) front n));
+            let C : Candidate → Type 0 = λ c. k < asNearAmong (take (s .candidates) list) c → passesAs ws k c ≡ false in
+            subst C (sym (record-back i l)) (λ n. crowded-as e (point-at i l) (subst (λ (cs : List Candidate). k < asNearAmong cs (recordOf q e)) front n));
         places = omega (arith, f .candidates, few, points-most);
       }
 

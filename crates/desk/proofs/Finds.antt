@@ -27,7 +27,7 @@ use Rattle.filter.specs.Meaning.{answersTo, rising, answer}
 use Rattle.filter.specs.Walk.{Found}
 use Rattle.filter.specs.Query.{recordOf, found, recordsFound, answersFound, laidOver}
 use Rattle.filter.proofs.Answers.{answers-right, candidates-few, candidates-points, opened-few, found-empty, answers-empty, answer-empty}
-use Rattle.filter.proofs.Meaning.{few-all-answer, answering-in, here-answers}
+use Rattle.filter.proofs.Meaning.{few-all-answer}
 use Rattle.filter.proofs.Rows.{laid-length}
 use Rattle.refusals.specs.Refusals.{numbersOf, queryGives}
 use Rattle.refusals.specs.Cases.{ifDone, ifShortList}
@@ -117,12 +117,6 @@ module _ (ws : Words) (words : All IsWord ws) (q : Site) (k : ℤ) (room places 
   -- with k or fewer points enrolled, all of them
   pub few-found : pointsOf ws ≤ natOf k → answersFound ws q (natOf k) ≡ rising (numbersOf ws)
   few-found few = granted-answers ∙ few-all-answer (stations ws) q (natOf k) (omega (arith, passing-points granted-passing))
-
-  -- a point at q itself among them
-  pub here-found : (p : Station) → Mem p (stations ws) → p .site ≡ q → Mem (p .number) (answersFound ws q (natOf k))
-  here-found p m e =
-      subst (Mem (p .number)) (sym granted-answers)
-      (answering-in (stations ws) q (natOf k) p m (here-answers (stations ws) q (natOf k) (query-granted ws q k room places done .0 .count .least) p e))
 
 -- ---- the two lists after a query
 

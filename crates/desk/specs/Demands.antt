@@ -69,8 +69,8 @@ pub record Demand1 : Type 0 where
   pub cardShort : (ws : Words) (n k : ℤ) (list : List ℕ) → afterCard ws n k list .given ≡ ShortList
       → (afterCard ws n k list .names ≡ length (namesFor (stations ws) (natOf n) (natOf k))) × (afterCard ws n k list .list ≡ list)
 
--- ---- demand 2: a granted query lists, rising, exactly the stations that have fewer than k others nearer than the place; its candidates and its count
--- of opened nodes are those of 01's filter walk
+-- ---- demand 2: a granted query lists, rising, exactly the stations that have fewer than k others as near as the place or nearer (02 §2); its candidates and
+-- its count of opened nodes are those of 01's filter walk, with the two tests that 02 §2 amends
 
 pub record Granted (ws : Words) (q : Site) (k : ℕ) (cs : List Candidate) (out : List ℕ) (r : Queried) : Type 0 where
   -- the answers, by the meaning alone: no tree and no walk

@@ -38,7 +38,7 @@ pub fn query_passing(
     handed_back(reply, answers.len())
 }
 
-// The points that have fewer than k others nearer than the place.
+// The points that have fewer than k others as near as the place or nearer.
 pub fn query(
     table: &[i32],
     x: i32,

@@ -1,4 +1,4 @@
--- The answers of the walk are the stations that answer: a point that is no candidate has k candidates nearer, and these are others. Assumes nothing.
+-- The answers of the walk are the stations that answer: a point that is no candidate has k candidates as near as the query or nearer, and these are others. Assumes nothing.
 use Prim.Native.Nat.{ℕ, _+_, _-_, _≤_, _<_, _^_}
 use native.Mathlib.Decide.{decLt}
 use native.Mathlib.Omega.{arith}
@@ -11,7 +11,7 @@ use lib.ListN.{length}
 use borrow.Author.Tests.{eqb-true, eqb-false, eq-eqb, ne-eqb, le-ltb}
 use Rattle.words.specs.Word.{IsWord, natOf}
 use Rattle.grid.specs.Site.{Site, placeOf, distance²}
-use Rattle.grid.specs.Nearer.{nearer, nearerTo}
+use Rattle.grid.specs.AsNear.{asNear, asNearTo}
 use Rattle.words.proofs.Words.{word-is, steps-word}
 use Rattle.grid.proofs.Rects.{place-ext}
 use Rattle.grid.proofs.Site.{SiteWords, SiteOnGrid, site-words, dist-sites}
@@ -27,7 +27,7 @@ use Rattle.table.specs.Stations.{Station, stationsAt, stations, isPoint, statio
 use Rattle.figures.specs.Figures.{LENGTH}
 use Rattle.rules.specs.Rules.{isEmpty, wellFormed}
 use Rattle.table.specs.Tree.{Tree, topOf, slotsOf, leavesOf, Sound, Holds}
-use Rattle.filter.specs.Meaning.{nearerOther, answersTo, rising, answer}
+use Rattle.filter.specs.Meaning.{asNearOther, answersTo, rising, answer}
 use Rattle.filter.specs.Walk.{Found, spotIn, walk}
 use Rattle.filter.specs.Query.{nothing, found, answersFound}
 use Rattle.filter.proofs.Rising.{filter-append, filter-none, perm-filter, rising-same}
@@ -47,11 +47,11 @@ point-site e p =
     let by : e .rect .y .low < 2 ^ 32 = omega (arith, p .y .grid) in
     (record { x = word-is _ bx; y = word-is _ by }, place-ext (steps-word _ bx) (steps-word _ by))
 
--- nearer in steps is nearer on the ground
-pub nearer-site : (q : Site) → SiteOnGrid q → (c e : Entry) → Point c → Point e
-    → nearerTo (spotIn e) (spotIn c) (placeOf q) ≡ nearer (distance² (stationOfEntry c .site) (stationOfEntry e .site)) (distance² q (stationOfEntry e .site))
-unfolding nearerTo
-nearer-site q g c e pc pe =
+-- as near in steps is as near on the ground
+pub as-near-site : (q : Site) → SiteOnGrid q → (c e : Entry) → Point c → Point e
+    → asNearTo (spotIn e) (spotIn c) (placeOf q) ≡ asNear (distance² (stationOfEntry c .site) (stationOfEntry e .site)) (distance² q (stationOfEntry e .site))
+unfolding asNearTo
+as-near-site q g c e pc pe =
     let sc = point-site c pc in
     let se = point-site e pe in
     rw (← (se .1), ← (sc .1), dist-sites (sc .0) (se .0), dist-sites (site-words g) (se .0))
@@ -94,39 +94,39 @@ abbrev pub numberOf : Entry → ℕ
 numberOf e = e .reference
 
 module _ (q : Site) (g : SiteOnGrid q) (k : ℕ) where
-  -- candidates of other numbers that are nearer in steps are nearer others
-  other-nearer : (c e : Entry) → Point c → Point e → (c .reference ≡ e .reference → ⊥)
-      → nearerTo (spotIn e) (spotIn c) (placeOf q) ≡ true → nearerOther q (stationOfEntry e) (stationOfEntry c) ≡ true
-  unfolding nearerOther
-  other-nearer c e pc pe ne h = rw (ne-eqb (c .reference) (e .reference) ne) (sym (nearer-site q g c e pc pe) ∙ h)
+  -- candidates of other numbers that are as near in steps are others that are as near
+  other-as-near : (c e : Entry) → Point c → Point e → (c .reference ≡ e .reference → ⊥)
+      → asNearTo (spotIn e) (spotIn c) (placeOf q) ≡ true → asNearOther q (stationOfEntry e) (stationOfEntry c) ≡ true
+  unfolding asNearOther
+  other-as-near c e pc pe ne h = rw (ne-eqb (c .reference) (e .reference) ne) (sym (as-near-site q g c e pc pe) ∙ h)
 
   hidden-out : (all : List Station) (b rest : List Entry) → Perm all (map stationOfEntry (b ++ rest)) → All Point (b ++ rest)
       → NoDup (map numberOf (b ++ rest)) → (e : Entry) → Mem e rest → Hidden (placeOf q) k b e
       → answersTo all q k (stationOfEntry e) ≡ false
   unfolding answersTo
   hidden-out all b rest p ps d e m h =
-      let near = nearerOther q (stationOfEntry e) in
+      let near = asNearOther q (stationOfEntry e) in
       let pe : Point e = mem-all Point (b ++ rest) ps (Memᴰ·append-right b m) in
       let apart : (c : Entry) → Mem c b → c .reference ≡ e .reference → ⊥ = λ c mc s.
       nodup-apart (map numberOf b) (map numberOf rest) (rw (map-append numberOf b rest) at d) (Memᴰ·map numberOf mc) (Memᴰ·cast s (Memᴰ·map numberOf m)) in
-      let least : count (λ c. nearerTo (spotIn e) (spotIn c) (placeOf q)) b ≤ count near (map stationOfEntry b) =
-      count-into (λ c. nearerTo (spotIn e) (spotIn c) (placeOf q)) near stationOfEntry b
-      (all-mem (λ c. nearerTo (spotIn e) (spotIn c) (placeOf q) ≡ true → near (stationOfEntry c) ≡ true) b
-      (λ c mc. other-nearer c e (mem-all Point (b ++ rest) ps (Memᴰ·append-left rest mc)) pe (apart c mc))) in
+      let least : count (λ c. asNearTo (spotIn e) (spotIn c) (placeOf q)) b ≤ count near (map stationOfEntry b) =
+      count-into (λ c. asNearTo (spotIn e) (spotIn c) (placeOf q)) near stationOfEntry b
+      (all-mem (λ c. asNearTo (spotIn e) (spotIn c) (placeOf q) ≡ true → near (stationOfEntry c) ≡ true) b
+      (λ c mc. other-as-near c e (mem-all Point (b ++ rest) ps (Memᴰ·append-left rest mc)) pe (apart c mc))) in
       le-ltb (count near all) k (omega (arith, perm-count p near, ap (count near) (map-append stationOfEntry b rest), count-append near (map stationOfEntry b) (map stationOfEntry rest)))
 
-  -- a point with more than k candidates nearer does not answer: at most one of these is the point itself. It does not matter whether a point is nearer to itself.
+  -- a point with more than k candidates as near does not answer: at most one of these is the point itself.
   crowded-out : (all : List Station) (b rest : List Entry) → Perm all (map stationOfEntry (b ++ rest)) → All Point (b ++ rest)
-      → NoDup (map numberOf (b ++ rest)) → (e : Entry) → Point e → k < count (λ c. nearerTo (spotIn e) (spotIn c) (placeOf q)) b
+      → NoDup (map numberOf (b ++ rest)) → (e : Entry) → Point e → k < count (λ c. asNearTo (spotIn e) (spotIn c) (placeOf q)) b
       → answersTo all q k (stationOfEntry e) ≡ false
   unfolding answersTo
   crowded-out all b rest p ps d e pe h =
-      let near = nearerOther q (stationOfEntry e) in
+      let near = asNearOther q (stationOfEntry e) in
       let once : NoDup (map numberOf b) = nodup-left (map numberOf b) (map numberOf rest) (rw (map-append numberOf b rest) at d) in
-      let least : count (λ c. nearerTo (spotIn e) (spotIn c) (placeOf q)) b ≤ count near (map stationOfEntry b) + count (eqb (e .reference)) (map numberOf b) =
-      count-but (λ c. nearerTo (spotIn e) (spotIn c) (placeOf q)) near (eqb (e .reference)) stationOfEntry numberOf b
-      (all-mem (λ c. nearerTo (spotIn e) (spotIn c) (placeOf q) ≡ true → eqb (e .reference) (c .reference) ≡ false → near (stationOfEntry c) ≡ true) b
-      (λ c mc t ne. other-nearer c e (mem-all Point (b ++ rest) ps (Memᴰ·append-left rest mc)) pe (λ s. eqb-false (e .reference) (c .reference) ne (sym s)) t)) in
+      let least : count (λ c. asNearTo (spotIn e) (spotIn c) (placeOf q)) b ≤ count near (map stationOfEntry b) + count (eqb (e .reference)) (map numberOf b) =
+      count-but (λ c. asNearTo (spotIn e) (spotIn c) (placeOf q)) near (eqb (e .reference)) stationOfEntry numberOf b
+      (all-mem (λ c. asNearTo (spotIn e) (spotIn c) (placeOf q) ≡ true → eqb (e .reference) (c .reference) ≡ false → near (stationOfEntry c) ≡ true) b
+      (λ c mc t ne. other-as-near c e (mem-all Point (b ++ rest) ps (Memᴰ·append-left rest mc)) pe (λ s. eqb-false (e .reference) (c .reference) ne (sym s)) t)) in
       le-ltb (count near all) k
       (omega (arith, once-most (e .reference) (map numberOf b) once, perm-count p near, ap (count near) (map-append stationOfEntry b rest), count-append near (map stationOfEntry b) (map stationOfEntry rest)))
 
@@ -168,7 +168,7 @@ module _ (q : Site) (g : SiteOnGrid q) (k : ℕ) (all : List Station) (S : List 
   unfolding answer
   answers-all = rising-same (perm-map (λ (p : Station). p .number) (psym kept))
 
-  pub crowded : (e : Entry) → Point e → k < count (λ c. nearerTo (spotIn e) (spotIn c) (placeOf q)) (b .candidates) → answersTo all q k (stationOfEntry e) ≡ false
+  pub crowded : (e : Entry) → Point e → k < count (λ c. asNearTo (spotIn e) (spotIn c) (placeOf q)) (b .candidates) → answersTo all q k (stationOfEntry e) ≡ false
   crowded e pe h =
       crowded-out q g k all (b .candidates) (f .rest) flat-found (all-perm Point split-found ps) (perm-nodup (perm-map numberOf (psym split-found)) d) e pe h
 
@@ -192,8 +192,8 @@ module _ (ws : Words) (l : ℕ) (t : Tree l) (h : Holds ws l t) (s : Sound l t) 
   answers-right =
       answers-all q g k (stations ws) (leavesOf l t) (slotsOf l t) (found ws q k) found-step (held-stations h s) points (s .once)
 
-  -- a point with more than k candidates nearer does not answer
-  pub candidates-crowded : (e : Entry) → Point e → k < count (λ c. nearerTo (spotIn e) (spotIn c) (placeOf q)) (found ws q k .candidates)
+  -- a point with more than k candidates as near does not answer
+  pub candidates-crowded : (e : Entry) → Point e → k < count (λ c. asNearTo (spotIn e) (spotIn c) (placeOf q)) (found ws q k .candidates)
       → answersTo (stations ws) q k (stationOfEntry e) ≡ false
   candidates-crowded = crowded q g k (stations ws) (leavesOf l t) (slotsOf l t) (found ws q k) found-step (held-stations h s) points (s .once)
 
@@ -272,11 +272,11 @@ module _ (ws : Words) (long : length ws ≡ LENGTH) (fits : All IsWord ws) (w : 
       let t = well-formed-tree ws long fits w e in
       omega (arith, candidates-few ws (t .level) (t .tree) (t .holds) (t .sound) q g k, held-points (t .holds)))
 
-  -- a point with more than k candidates nearer does not answer
-  pub found-crowded : (e : Entry) → isPoint e ≡ true → k < count (λ c. nearerTo (spotIn e) (spotIn c) (placeOf q)) (found ws q k .candidates)
+  -- a point with more than k candidates as near does not answer
+  pub found-crowded : (e : Entry) → isPoint e ≡ true → k < count (λ c. asNearTo (spotIn e) (spotIn c) (placeOf q)) (found ws q k .candidates)
       → answersTo (stations ws) q k (stationOfEntry e) ≡ false
   found-crowded e p h =
-      by-test (isEmpty ws) (λ n. absurd (omega (arith, h, ap (λ (b : Found). count (λ c. nearerTo (spotIn e) (spotIn c) (placeOf q)) (b .candidates)) (found-empty ws n q k))))
+      by-test (isEmpty ws) (λ n. absurd (omega (arith, h, ap (λ (b : Found). count (λ c. asNearTo (spotIn e) (spotIn c) (placeOf q)) (b .candidates)) (found-empty ws n q k))))
       (λ n. let t = well-formed-tree ws long fits w n in candidates-crowded ws (t .level) (t .tree) (t .holds) (t .sound) q g k e (point e p) h)
 
   -- the answers are those of the meaning

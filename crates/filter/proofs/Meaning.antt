@@ -1,23 +1,19 @@
--- Two small truths of the meaning: with k or fewer points enrolled every point answers, since no point is its own other; and a point at the place itself always answers, since nothing is nearer than the distance 0. Assumes nothing.
-use Prim.Native.Nat.{ℕ, _*_, _≤_, _<_}
+-- A small truth of the meaning: with k or fewer points enrolled every point answers, since no point is its own other. And who stands in the answer. Assumes nothing.
+use Prim.Native.Nat.{ℕ, _≤_, _<_}
 use native.Mathlib.Omega.{arith}
 use mathlib.Core.Path.{_≡_, refl, sym, ap, _∙_}
 use mathlib.Core.Logic.{⊎-elim}
-use mathlib.Core.Bool.{Bool, true, false, not, _&&_}
+use mathlib.Core.Bool.{Bool, true, false, _&&_}
 use mathlib.Core.List.{List, [], _∷_, map, List·Memᴰ·not-nil, List·Memᴰ·cases-cons, Memᴰ·map, Memᴰ·of-map}
-use lib.Dec.{eqb}
-use lib.IntN.{ℤ, natAbs, +ℤ-invr}
 use lib.ListN.{length}
 use borrow.Author.Tests.{lt-ltb, eq-eqb}
-use Rattle.grid.specs.Site.{Site, squareApart, distance²}
-use Rattle.grid.specs.Nearer.{nearer}
-use Rattle.grid.proofs.Nearer.{far-more, near-self}
+use Rattle.grid.specs.Site.{Site}
 use Rattle.order.specs.Lists.{one, count, filter, Mem, All}
 use Rattle.order.proofs.Perm.{psym, perm-mem}
 use Rattle.order.proofs.Lists.{one-most, count-most, filter-mem, mem-filter, all-mem}
 use Rattle.order.proofs.Order.{sort-perm}
 use Rattle.table.specs.Stations.{Station}
-use Rattle.filter.specs.Meaning.{nearerOther, answersTo, rising, answer}
+use Rattle.filter.specs.Meaning.{asNearOther, answersTo, rising, answer}
 
 -- ---- lists
 
@@ -42,27 +38,9 @@ and-false false = refl
 
 -- ---- no point is its own other
 
-self-no-other : (q : Site) (p : Station) → nearerOther q p p ≡ false
-unfolding nearerOther
+self-no-other : (q : Site) (p : Station) → asNearOther q p p ≡ false
+unfolding asNearOther
 self-no-other q p = rw (eq-eqb (p .number) (p .number) refl)
-
--- ---- nothing is nearer than a point at the place itself
-
-square-self : (a : ℤ) → squareApart a a ≡ 0
-unfolding squareApart
-square-self a = ap (λ z. natAbs z * natAbs z) (+ℤ-invr a)
-
-distance-self : (q : Site) → distance² q q ≡ 0
-unfolding distance²
-distance-self q = omega (arith, square-self (q .x), square-self (q .y))
-
-none-nearer : (q : Site) (p c : Station) → p .site ≡ q → nearerOther q p c ≡ false
-unfolding nearerOther
-none-nearer q p c e =
-    let d : distance² q (p .site) ≡ 0 = ap (distance² q) e ∙ distance-self q in
-    let far : nearer (distance² (c .site) (p .site)) (distance² q (p .site)) ≡ false =
-    ap (nearer (distance² (c .site) (p .site))) d ∙ far-more 0 (distance² (c .site) (p .site)) 0 (omega arith) (near-self 0) in
-    ap (λ b. not (eqb (c .number) (p .number)) && b) far ∙ and-false (not (eqb (c .number) (p .number)))
 
 -- ---- who answers stands in the answer
 
@@ -82,13 +60,13 @@ in-answer all q k n m =
     let f = filter-mem (answersTo all q k) all (o .1) in
     (o .0, f .0, f .1, o .2)
 
--- ---- the two
+-- ---- few points
 
 -- with k or fewer points enrolled every point answers
 pub few-answer : (all : List Station) (q : Site) (k : ℕ) → length all ≤ k → (p : Station) → Mem p all → answersTo all q k p ≡ true
 unfolding answersTo
 few-answer all q k few p m =
-    lt-ltb (count (nearerOther q p) all) k (omega (arith, count-less (nearerOther q p) all m (self-no-other q p)))
+    lt-ltb (count (asNearOther q p) all) k (omega (arith, count-less (asNearOther q p) all m (self-no-other q p)))
 
 -- so the answer is all of them
 pub few-all-answer : (all : List Station) (q : Site) (k : ℕ) → length all ≤ k → answer all q k ≡ rising (map (λ p. p .number) all)
@@ -96,10 +74,3 @@ unfolding answer
 few-all-answer all q k few =
     ap (λ ps. rising (map (λ (p : Station). p .number) ps))
     (filter-all (answersTo all q k) all (all-mem (λ p. answersTo all q k p ≡ true) all (few-answer all q k few)))
-
--- a point at q itself always answers
-pub here-answers : (all : List Station) (q : Site) (k : ℕ) → 1 ≤ k → (p : Station) → p .site ≡ q → answersTo all q k p ≡ true
-unfolding answersTo
-here-answers all q k some p e =
-    let none : All (λ c. nearerOther q p c ≡ false) all = all-mem (λ c. nearerOther q p c ≡ false) all (λ c m. none-nearer q p c e) in
-    lt-ltb (count (nearerOther q p) all) k (omega (arith, count-none (nearerOther q p) all none))

@@ -1,4 +1,4 @@
--- What a part of the walk does to the candidates, for a table that holds a tree: by recursion on the tree. Candidates are only added behind, each point that the part passes is added or has k candidates nearer, and no more nodes are opened than there are. Assumes nothing.
+-- What a part of the walk does to the candidates, for a table that holds a tree: by recursion on the tree. Candidates are only added behind, each point that the part passes is added or has k candidates as near, and no more nodes are opened than there are. Assumes nothing.
 use Prim.Native.Nat.{ℕ, zero, suc, _+_, _≤_}
 use native.Mathlib.Omega.{arith}
 use mathlib.Core.Path.{_≡_, refl, sym, ap, subst, _∙_}
@@ -8,9 +8,9 @@ use lib.ListN.{length, length-append}
 use borrow.Author.Tests.{leb-true}
 use Rattle.grid.specs.declared.place.Place.{Place}
 use Rattle.grid.specs.Place.{Inside, Within, leastSquare}
-use Rattle.grid.specs.Nearer.{nearerTo, cornersNearer}
+use Rattle.grid.specs.AsNear.{asNearTo, cornersAsNear}
 use Rattle.grid.proofs.Rects.{within-trans, inside-within}
-use Rattle.grid.proofs.Nearer.{half-plane}
+use Rattle.grid.proofs.AsNear.{half-plane}
 use Rattle.order.specs.Lists.{count, join, Mem, All}
 use Rattle.order.specs.Order.{sortBy, Perm, ptrans}
 use Rattle.order.proofs.Perm.{prefl, perm-length, perm-before, perm-behind, perm-turn, perm-append, perm-mem}
@@ -54,12 +54,12 @@ leaf-inside {l = l} {t = t} g e m =
 -- ---- what a part of the walk does
 
 module _ (q : Place) (k : ℕ) where
-  -- at least k candidates are nearer to the point than q
+  -- at least k candidates are as near to the point as q, or nearer
   abbrev pub Hidden : List Entry → Entry → Type 0
-  Hidden found e = k ≤ count (λ c. nearerTo (spotIn e) (spotIn c) q) found
+  Hidden found e = k ≤ count (λ c. asNearTo (spotIn e) (spotIn c) q) found
 
   hidden-more : (a b : List Entry) (e : Entry) → Hidden a e → Hidden (a ++ b) e
-  hidden-more a b e h = omega (arith, count-append (λ c. nearerTo (spotIn e) (spotIn c) q) a b)
+  hidden-more a b e h = omega (arith, count-append (λ c. asNearTo (spotIn e) (spotIn c) q) a b)
 
   -- from a to b, over the points S and the nodes T
   pub record Step (S : List Entry) (T : List ℕ) (a b : Found) : Type 0 where
@@ -140,7 +140,7 @@ module _ (q : Place) (k : ℕ) where
       by-bool (λ b. Step q k S T now (cond b now (opening (e .reference) now))) (boxHidden q k (now .candidates) e)
       (λ h. step-skip S T now
       (all-mem (Hidden q k (now .candidates)) S
-      (λ p m. omega (arith, leb-true k _ h, count-mono (λ c. cornersNearer (e .rect) (spotIn c) q) (λ c. nearerTo (spotIn p) (spotIn c) q) (λ c t. half-plane (spotIn c) q t (mem-all (λ p. Inside (spotIn p) (e .rect)) S w m)) (now .candidates)))))
+      (λ p m. omega (arith, leb-true k _ h, count-mono (λ c. cornersAsNear (e .rect) (spotIn c) q) (λ c. asNearTo (spotIn p) (spotIn c) q) (λ c t. half-plane (spotIn c) q t (mem-all (λ p. Inside (spotIn p) (e .rect)) S w m)) (now .candidates)))))
       (λ h. f)
 
 -- ---- what is known of the candidates after it

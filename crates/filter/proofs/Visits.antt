@@ -11,7 +11,7 @@ use lib.ListN.{length, getD, set, length-append, length-map}
 use Rattle.words.specs.Word.{wordOf}
 use Rattle.grid.specs.declared.place.Place.{Place}
 use Rattle.grid.specs.Place.{PlaceOnGrid, dist²}
-use Rattle.grid.specs.Nearer.{nearerTo, cornersNearer}
+use Rattle.grid.specs.AsNear.{asNearTo, cornersAsNear}
 use Rattle.order.specs.Lists.{count, Mem}
 use Rattle.order.specs.Order.{upFrom}
 use Rattle.order.proofs.Lists.{mem-all, map-at}
@@ -79,11 +79,11 @@ rows-add q r m e k room =
 -- ---- a visit
 
 module _ (e : Entry) (q : Place) (k : ℕ) (r : Rows) (s : Seen) (t : Bool)
-    (tested : t ≡ leb k (count (λ i. nearerTo (spotIn e) (placeIn (r .xs) (r .ys) i) q) (upFrom 0 (s .candidates)))) where
+    (tested : t ≡ leb k (count (λ i. asNearTo (spotIn e) (placeIn (r .xs) (r .ys) i) q) (upFrom 0 (s .candidates)))) where
   -- the test of the code is that of the walk
   visit-test : pointHidden q k (listed r (s .candidates)) e ≡ t
   unfolding pointHidden
-  visit-test = ap (leb k) (listed-count r (s .candidates) (λ p. nearerTo (spotIn e) p q)) ∙ sym tested
+  visit-test = ap (leb k) (listed-count r (s .candidates) (λ p. asNearTo (spotIn e) p q)) ∙ sym tested
 
   visit-cond : visited q k e (foundIn r s) ≡ cond t (foundIn r s) (withCandidate q k e (foundIn r s))
   visit-cond = rw visit-test
@@ -113,11 +113,11 @@ module _ (e : Entry) (q : Place) (k : ℕ) (r : Rows) (s : Seen) (t : Bool)
 -- ---- a child's turn
 
 module _ (e : Entry) (q : Place) (k : ℕ) (r : Rows) (s : Seen) (t : Bool)
-    (tested : t ≡ leb k (count (λ i. cornersNearer (e .rect) (placeIn (r .xs) (r .ys) i) q) (upFrom 0 (s .candidates))))
+    (tested : t ≡ leb k (count (λ i. cornersAsNear (e .rect) (placeIn (r .xs) (r .ys) i) q) (upFrom 0 (s .candidates))))
     (opening : ℕ → Found → Found) where
   enter-test : boxHidden q k (listed r (s .candidates)) e ≡ t
   unfolding boxHidden
-  enter-test = ap (leb k) (listed-count r (s .candidates) (λ p. cornersNearer (e .rect) p q)) ∙ sym tested
+  enter-test = ap (leb k) (listed-count r (s .candidates) (λ p. cornersAsNear (e .rect) p q)) ∙ sym tested
 
   pub enter-hidden : t ≡ true → entered q k opening e (foundIn r s) ≡ foundIn r s
   enter-hidden h = rw (enter-test, h)

@@ -5,7 +5,7 @@ use mathlib.Core.List.{List, [], _∷_, _++_}
 use lib.Dec.{leb}
 use Rattle.grid.specs.declared.place.Place.{Place}
 use Rattle.grid.specs.Place.{leastSquare}
-use Rattle.grid.specs.Nearer.{nearerTo, cornersNearer}
+use Rattle.grid.specs.AsNear.{asNearTo, cornersAsNear}
 use Rattle.order.specs.Order.{sortBy}
 use Rattle.order.specs.Lists.{count}
 use Rattle.table.specs.declared.node.Entry.{Entry}
@@ -31,13 +31,13 @@ module _ (q : Place) (k : ℕ) where
   unfoldable pub nearestFirst : List Entry → List Entry
   nearestFirst es = sortBy (λ e. leastSquare (e .rect) q) es
 
-  -- at least k candidates so far are nearer to the point than q
+  -- at least k candidates so far are as near to the point as q, or nearer
   unfoldable pub pointHidden : List Entry → Entry → Bool
-  pointHidden found e = leb k (count (λ c. nearerTo (spotIn e) (spotIn c) q) found)
+  pointHidden found e = leb k (count (λ c. asNearTo (spotIn e) (spotIn c) q) found)
 
-  -- for at least k candidates so far all four corners of the box are nearer to that candidate than to q
+  -- for at least k candidates so far all four corners of the box are as near to that candidate as to q, or nearer
   unfoldable pub boxHidden : List Entry → Entry → Bool
-  boxHidden found e = leb k (count (λ c. cornersNearer (e .rect) (spotIn c) q) found)
+  boxHidden found e = leb k (count (λ c. cornersAsNear (e .rect) (spotIn c) q) found)
 
   abbrev pub withCandidate : Entry → Found → Found
   withCandidate e now = record { candidates = now .candidates ++ e ∷ []; opened = now .opened }

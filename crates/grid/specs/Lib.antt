@@ -1,3 +1,3 @@
 pub mod Place
-pub mod Nearer
+pub mod AsNear
 pub mod Site

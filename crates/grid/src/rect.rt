@@ -2,7 +2,7 @@
 ghost use mathlib.Core.Path.{_≡_};
 ghost use Prim.Native.Nat.{_+_, _-_, _*_, _≤_};
 ghost use Rattle.grid.specs.Place.{PlaceOnGrid, RectOnGrid, RectEndsFit, rectGrown, areaOf, growthOf, longerAxis, sumOn, leastSquare, rectEndsOf};
-ghost use Rattle.grid.specs.Nearer.{allNearer};
+ghost use Rattle.grid.specs.AsNear.{allAsNear};
 use crate::place::Place;
 use crate::place::is_led;
 use axis::span::Ends;
@@ -94,10 +94,10 @@ impl Rect {
 }
 
 impl RectEnds {
-    // The corner test with the ends at hand: all four corners are nearer to c, which is at the squared distance `square` from q, than to q.
-    pub fn all_nearer(self, c: Place, q: Place, square: u64) -> bool
+    // The corner test with the ends at hand: all four corners are as near to c, which is at the squared distance `square` from q, as to q, or nearer.
+    pub fn all_as_near(self, c: Place, q: Place, square: u64) -> bool
         requires { ⌜ RectEndsFit self × PlaceOnGrid c × PlaceOnGrid q × (square ≤ 8000000000000) ⌝ }
-        ensures { λ r. ⌜ r ≡ allNearer self c q square ⌝ }
+        ensures { λ r. ⌜ r ≡ allAsNear self c q square ⌝ }
     {
         is_led(square, self.x.lead(c.x, q.x) + self.y.lead(c.y, q.y))
     }

@@ -9,7 +9,7 @@ use Rattle.grid.specs.declared.rect.Rect.{Rect}
 use Rattle.axis.specs.Axis.{apart, sq, gap}
 use Rattle.words.specs.Word.{stepsOf, wordOf}
 use Rattle.grid.specs.Place.{dist², areaOf, growthOf, longerAxis, leastSquare}
-use Rattle.grid.specs.Nearer.{nearer, nearerTo, cornersNearer}
+use Rattle.grid.specs.AsNear.{asNear, asNearTo, cornersAsNear}
 use Rattle.grid.specs.Site.{Site, squareApart, distance²}
 use Rattle.order.specs.Lists.{filter}
 use Rattle.table.specs.declared.node.Entry.{Entry}
@@ -22,7 +22,7 @@ use Rattle.table.specs.Empty.{emptyTable, freeSlots}
 use Rattle.change.specs.Choose.{takesBefore, chosen}
 use Rattle.change.specs.Share.{lined, firstShare, otherShare}
 use Rattle.joining.specs.Enrol.{settled, enrolled}
-use Rattle.filter.specs.Meaning.{nearerOther, answersTo, rising, answer}
+use Rattle.filter.specs.Meaning.{asNearOther, answersTo, rising, answer}
 use Rattle.filter.specs.Walk.{Found, nearestFirst, pointHidden, boxHidden}
 use Rattle.filter.specs.Query.{found, answersFound}
 use Rattle.refusals.specs.Refusals.{site}
@@ -60,11 +60,11 @@ nineStations = refl
 
 -- the walk from (−10, 0): slot 0 first, where point 1 becomes a candidate and hides the rest; then slot 1, which it hides too
 nineFound : found nineTable (site (negsuc 9) (pos 0)) 1 ≡ record { candidates = pt 0 ∷ []; opened = 2 }
-unfolding nineTable found isEmpty isFree partAt pageWords freeWords pageAt pageOf entryOf entryWords entriesWords wordOf nearestFirst pointHidden boxHidden leastSquare gap nearer nearerTo cornersNearer dist² sq apart
+unfolding nineTable found isEmpty isFree partAt pageWords freeWords pageAt pageOf entryOf entryWords entriesWords wordOf nearestFirst pointHidden boxHidden leastSquare gap asNear asNearTo cornersAsNear dist² sq apart
 nineFound = refl
 
 nineHidden : boxHidden (at (negsuc 9) (pos 0)) 1 (pt 0 ∷ []) (entryFor nineTable 1) ≡ true
-unfolding nineTable entryFor coverOf partAt pageWords pageAt pageOf entryOf entryWords entriesWords wordOf boxHidden nearer nearerTo cornersNearer dist² sq apart
+unfolding nineTable entryFor coverOf partAt pageWords pageAt pageOf entryOf entryWords entriesWords wordOf boxHidden asNear asNearTo cornersAsNear dist² sq apart
 nineHidden = refl
 
 emptyFound : (q : Site) (k : ℕ) → found emptyTable q k ≡ record { candidates = []; opened = 0 }
@@ -78,11 +78,11 @@ unfolding answersFound
 answers-by ws q k f all e s = rw (e, s)
 
 nineAnswers : answersFound nineTable (site (negsuc 9) (pos 0)) 1 ≡ 1 ∷ []
-unfolding rising answersTo nearerOther nearer distance² squareApart wordOf
+unfolding rising answersTo asNearOther asNear distance² squareApart wordOf
 nineAnswers = answers-by nineTable _ 1 _ row nineFound nineStations
 
 pub stars : Stars
-unfolding answer rising answersTo nearerOther nearer distance² squareApart cornersNearer nearerTo dist² sq apart nineTable partAt pageWords pageAt pageOf entryOf entryWords entriesWords wordOf
+unfolding answer rising answersTo asNearOther asNear distance² squareApart cornersAsNear asNearTo dist² sq apart nineTable partAt pageWords pageAt pageOf entryOf entryWords entriesWords wordOf
 stars = record {
   threeAt5k1 = refl;
   threeAt5k2 = refl;

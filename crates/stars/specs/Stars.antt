@@ -8,7 +8,7 @@ use Rattle.grid.specs.declared.place.Place.{Place}
 use Rattle.grid.specs.declared.rect.Rect.{Rect}
 use Rattle.words.specs.Word.{stepsOf}
 use Rattle.grid.specs.Site.{Site, placeOf}
-use Rattle.grid.specs.Nearer.{cornersNearer}
+use Rattle.grid.specs.AsNear.{cornersAsNear}
 use Rattle.table.specs.Words.{Words, rootOf}
 use Rattle.table.specs.Slots.{entriesAt, entryFor}
 use Rattle.table.specs.Stations.{Station}
@@ -74,5 +74,5 @@ pub record Stars : Type 0 where
   -- slot 1 is never opened: with the one candidate its box is discarded
   pub nineSlot1Discarded : boxHidden (at (negsuc 9) (pos 0)) 1 (found (enrolledUpTo 9) (site (negsuc 9) (pos 0)) 1 .candidates) (entryFor (enrolledUpTo 9) 1) ≡ true
   -- q (0,0), k 1: candidate (8,0) discards the box; candidate (20,0) does not, since at (10,5) both squares are 125
-  pub boxDiscarded : cornersNearer box (at (pos 8) (pos 0)) (at (pos 0) (pos 0)) ≡ true
-  pub boxKept : cornersNearer box (at (pos 20) (pos 0)) (at (pos 0) (pos 0)) ≡ false
+  pub boxDiscarded : cornersAsNear box (at (pos 8) (pos 0)) (at (pos 0) (pos 0)) ≡ true
+  pub boxKept : cornersAsNear box (at (pos 20) (pos 0)) (at (pos 0) (pos 0)) ≡ false

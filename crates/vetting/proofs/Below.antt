@@ -1,4 +1,4 @@
--- The final test down the tree: what has been found in the first of a node's entries, boxes that hold no nearer point, and the points below a slot, which in a stored tree are its leaves. Assumes nothing.
+-- The final test down the tree: what has been found in the first of a node's entries, boxes that hold no point as near, and the points below a slot, which in a stored tree are its leaves. Assumes nothing.
 use Prim.Native.Nat.{ℕ, zero, suc, _+_, _-_, _≤_, _<_, min}
 use native.Mathlib.Numerals.{add-one}
 use native.Mathlib.Omega.{arith}
@@ -11,9 +11,9 @@ use lib.Seq.{take-suc, take-all}
 use Rattle.grid.specs.declared.place.Place.{Place}
 use Rattle.grid.specs.declared.rect.Rect.{Rect}
 use Rattle.grid.specs.Place.{Inside, dist², leastSquare}
-use Rattle.grid.specs.Nearer.{nearer}
+use Rattle.grid.specs.AsNear.{asNear}
 use Rattle.grid.proofs.Rects.{dist-sym, least-square-least}
-use Rattle.grid.proofs.Nearer.{far-more}
+use Rattle.grid.proofs.AsNear.{far-more}
 use Rattle.order.specs.Lists.{count, join, All}
 use Rattle.order.proofs.Lists.{count-append, join-append, all-mem, all-at, perm-count, all-then, all-map}
 use Rattle.table.specs.declared.node.Entry.{Entry}
@@ -31,7 +31,7 @@ use Rattle.rules.proofs.Complete.{leaves-perm}
 use Rattle.rules.proofs.Held.{held-complete}
 use Rattle.filter.specs.Walk.{spotIn}
 use Rattle.filter.specs.Passable.{Passable}
-use Rattle.vetting.specs.Test.{otherNearer, below, Boxed}
+use Rattle.vetting.specs.Test.{otherAsNear, below, Boxed}
 use Rattle.filter.proofs.Meaning.{and-false, count-none}
 use Rattle.filter.proofs.Steps.{leaf-inside}
 use Rattle.filter.proofs.NodeTurns.{by-pred, passable-above, IsChild}
@@ -77,12 +77,12 @@ module _ {A B : Type 0} (P : B → Bool) (S : A → List B) (xs : List A) (most 
 -- ---- a box that is passed by
 
 -- no point in it is nearer than the box
-pub box-none : (number : ℕ) (p : Place) (far : ℕ) (r : Rect) (es : List Entry) → All (λ c. Inside (spotIn c) r) es → nearer (leastSquare r p) far ≡ false
-    → count (otherNearer number p far) es ≡ 0
-unfolding otherNearer
+pub box-none : (number : ℕ) (p : Place) (far : ℕ) (r : Rect) (es : List Entry) → All (λ c. Inside (spotIn c) r) es → asNear (leastSquare r p) far ≡ false
+    → count (otherAsNear number p far) es ≡ 0
+unfolding otherAsNear
 box-none number p far r es inside h =
-    count-none (otherNearer number p far) es
-    (all-then (λ c. Inside (spotIn c) r) (λ c. otherNearer number p far c ≡ false)
+    count-none (otherAsNear number p far) es
+    (all-then (λ c. Inside (spotIn c) r) (λ c. otherAsNear number p far c ≡ false)
     (λ c i.
     let away : leastSquare r p ≤ dist² (spotIn c) p = rw (dist-sym (spotIn c) p) (least-square-least p i) in
     rw (far-more (leastSquare r p) (dist² (spotIn c) p) far away h) (and-false (not (eqb (c .reference) number)))) es inside)

@@ -12,7 +12,7 @@ use Rattle.words.specs.Word.{IsWord}
 use Rattle.grid.specs.declared.place.Place.{Place}
 use Rattle.grid.specs.Place.{dist²}
 use Rattle.grid.specs.Site.{Site, placeOf}
-use Rattle.grid.specs.Nearer.{nearerTo}
+use Rattle.grid.specs.AsNear.{asNearTo}
 use Rattle.grid.proofs.Site.{SiteOnGrid}
 use Rattle.order.specs.Lists.{one, count, join, All}
 use Rattle.order.proofs.Lists.{count-most}
@@ -30,11 +30,11 @@ use Rattle.rules.proofs.EachRule.{points-fact}
 use Rattle.rules.proofs.FromRules.{part-fits}
 use Rattle.rules.proofs.Enrolled.{stations-length, stations-leaves}
 use Rattle.rules.proofs.Reading.{Point, point}
-use Rattle.filter.specs.Meaning.{nearerOther, answersTo}
+use Rattle.filter.specs.Meaning.{asNearOther, answersTo}
 use Rattle.filter.specs.Walk.{spotIn}
-use Rattle.vetting.specs.Test.{otherNearer, passes, below}
+use Rattle.vetting.specs.Test.{otherAsNear, passes, below}
 use Rattle.filter.proofs.Rows.{count-map}
-use Rattle.filter.proofs.Answers.{nearer-site, stations-empty}
+use Rattle.filter.proofs.Answers.{as-near-site, stations-empty}
 use Rattle.vetting.proofs.Below.{root-count}
 
 -- ---- down the tree
@@ -55,16 +55,16 @@ module _ (ws : Words) (number : ℕ) (p : Place) (far k : ℕ) where
   unfolding passes
   passes-empty e =
       ap (λ (n : ℕ). ltb n k)
-      (sym (count-zero (otherNearer number p far) (join (leafEntries ws) slots) (sym (stations-length ws) ∙ ap length (stations-empty ws e))))
+      (sym (count-zero (otherAsNear number p far) (join (leafEntries ws) slots) (sym (stations-length ws) ∙ ap length (stations-empty ws e))))
 
   pub passes-root : (long : length ws ≡ LENGTH) (fits : All IsWord ws) (w : wellFormed ws ≡ true) → isEmpty ws ≡ false
-      → (root level : ℕ) → root ≡ rootOf ws → level ≡ levelAt ws root → (found : ℕ) → found ≡ min k (count (otherNearer number p far) (below level ws root))
+      → (root level : ℕ) → root ≡ rootOf ws → level ≡ levelAt ws root → (found : ℕ) → found ≡ min k (count (otherAsNear number p far) (below level ws root))
       → ltb found k ≡ passes ws number p far k
   unfolding passes
   passes-root long fits w e root level isRoot isLevel found f =
       ap (λ (n : ℕ). ltb n k) f
-      ∙ most-below k (count (otherNearer number p far) (below level ws root))
-      ∙ ap (λ (n : ℕ). ltb n k) (root-count ws long fits w e root level isRoot isLevel (otherNearer number p far))
+      ∙ most-below k (count (otherAsNear number p far) (below level ws root))
+      ∙ ap (λ (n : ℕ). ltb n k) (root-count ws long fits w e root level isRoot isLevel (otherAsNear number p far))
 
 -- ---- it is the test of the meaning
 
@@ -74,9 +74,9 @@ count-same P Q (x ∷ xs) h = omega (arith, ap one (h .0), count-same P Q xs (h 
 
 -- of two points
 other-same : (q : Site) → SiteOnGrid q → (c e : Entry) → Point c → Point e
-    → otherNearer (e .reference) (spotIn e) (dist² (placeOf q) (spotIn e)) c ≡ nearerOther q (stationOfEntry e) (stationOfEntry c)
-unfolding otherNearer nearerOther nearerTo
-other-same q g c e pc pe = ap (λ b. not (eqb (c .reference) (e .reference)) && b) (nearer-site q g c e pc pe)
+    → otherAsNear (e .reference) (spotIn e) (dist² (placeOf q) (spotIn e)) c ≡ asNearOther q (stationOfEntry e) (stationOfEntry c)
+unfolding otherAsNear asNearOther asNearTo
+other-same q g c e pc pe = ap (λ b. not (eqb (c .reference) (e .reference)) && b) (as-near-site q g c e pc pe)
 
 module _ (ws : Words) (long : length ws ≡ LENGTH) (fits : All IsWord ws) (w : wellFormed ws ≡ true) where
   leaf-points : (s : ℕ) → s < SLOTS → All (λ e. isPoint e ≡ true) (leafEntries ws s)
@@ -93,9 +93,9 @@ module _ (ws : Words) (long : length ws ≡ LENGTH) (fits : All IsWord ws) (w : 
   unfolding passes answersTo
   passes-answers q g k e pe =
       let L = join (leafEntries ws) slots in
-      let near = nearerOther q (stationOfEntry e) in
+      let near = asNearOther q (stationOfEntry e) in
       ap (λ (n : ℕ). ltb n k)
-      (count-same (otherNearer (e .reference) (spotIn e) (dist² (placeOf q) (spotIn e))) (λ c. near (stationOfEntry c)) L
-      (all-then Point (λ c. otherNearer (e .reference) (spotIn e) (dist² (placeOf q) (spotIn e)) c ≡ near (stationOfEntry c)) (λ c pc. other-same q g c e pc (point e pe)) L all-points)
+      (count-same (otherAsNear (e .reference) (spotIn e) (dist² (placeOf q) (spotIn e))) (λ c. near (stationOfEntry c)) L
+      (all-then Point (λ c. otherAsNear (e .reference) (spotIn e) (dist² (placeOf q) (spotIn e)) c ≡ near (stationOfEntry c)) (λ c pc. other-same q g c e pc (point e pe)) L all-points)
       ∙ sym (count-map near stationOfEntry L)
       ∙ ap (count near) (sym (stations-leaves ws (λ s h. part-fits ws fits s))))

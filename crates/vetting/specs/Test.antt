@@ -5,7 +5,7 @@ use mathlib.Core.List.{List}
 use lib.Dec.{eqb, ltb}
 use Rattle.grid.specs.declared.place.Place.{Place}
 use Rattle.grid.specs.Place.{dist², Inside}
-use Rattle.grid.specs.Nearer.{nearer}
+use Rattle.grid.specs.AsNear.{asNear}
 use Rattle.order.specs.Lists.{count, join, All}
 use Rattle.table.specs.declared.node.Entry.{Entry}
 use Rattle.table.specs.Words.{Words}
@@ -13,13 +13,13 @@ use Rattle.table.specs.Slots.{slots, entriesAt}
 use Rattle.rules.specs.Rules.{leafEntries}
 use Rattle.filter.specs.Walk.{spotIn}
 
--- the entry is another point, nearer to the point with this number at p than a place at the squared distance far from p
-unfoldable pub otherNearer : ℕ → Place → ℕ → Entry → Bool
-otherNearer number p far e = not (eqb (e .reference) number) && nearer (dist² (spotIn e) p) far
+-- the entry is another point, as near to the point with this number at p as a place at the squared distance far from p, or nearer
+unfoldable pub otherAsNear : ℕ → Place → ℕ → Entry → Bool
+otherAsNear number p far e = not (eqb (e .reference) number) && asNear (dist² (spotIn e) p) far
 
--- fewer than k others are nearer
+-- fewer than k others are as near or nearer
 unfoldable pub passes : Words → ℕ → Place → ℕ → ℕ → Bool
-passes ws number p far k = ltb (count (otherNearer number p far) (join (leafEntries ws) slots)) k
+passes ws number p far k = ltb (count (otherAsNear number p far) (join (leafEntries ws) slots)) k
 
 -- the points below the node in slot s, of level l
 abbrev pub below : ℕ → Words → ℕ → List Entry

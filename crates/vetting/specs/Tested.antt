@@ -6,7 +6,7 @@ use mathlib.Core.List.{List, map}
 use lib.ListN.{length, getD, take}
 use Rattle.words.specs.Word.{stepsOf}
 use Rattle.grid.specs.declared.place.Place.{Place}
-use Rattle.grid.specs.Nearer.{nearer}
+use Rattle.grid.specs.AsNear.{asNear}
 use Rattle.grid.specs.Place.{spotOf, dist²}
 use Rattle.order.specs.Lists.{filter, count}
 use Rattle.table.specs.declared.node.Entry.{Entry}
@@ -29,13 +29,13 @@ entryOf c = record { reference = c .number; rect = spotOf (placeOf c) }
 unfoldable pub passesAs : Words → ℕ → Candidate → Bool
 passesAs ws k c = passes ws (c .number) (placeOf c) (c .square) k
 
--- d is nearer to the candidate c than q is
-unfoldable pub nearerAs : Candidate → Candidate → Bool
-nearerAs c d = nearer (dist² (placeOf d) (placeOf c)) (c .square)
+-- d is as near to the candidate c as q is, or nearer
+unfoldable pub asNearToIt : Candidate → Candidate → Bool
+asNearToIt c d = asNear (dist² (placeOf d) (placeOf c)) (c .square)
 
 -- how many of the candidates are
-unfoldable pub nearerAmong : List Candidate → Candidate → ℕ
-nearerAmong cs c = count (nearerAs c) cs
+unfoldable pub asNearAmong : List Candidate → Candidate → ℕ
+asNearAmong cs c = count (asNearToIt c) cs
 
 -- the numbers of those that pass, in the order found
 unfoldable pub numbersPassing : Words → ℕ → List Candidate → List ℕ
@@ -50,6 +50,6 @@ pub record Readable (cs : List Candidate) (m : ℕ) : Type 0 where
 pub record Keepable (ws : Words) (cs : List Candidate) (k m free : ℕ) : Type 0 where
   pub table : Passing ws
   pub list : Readable cs m
-  -- a candidate with more than k of them nearer does not pass: all but one of these are others
-  pub crowded : (i : ℕ) → i < m → k < nearerAmong (take m cs) (getD cs i none) → passesAs ws k (getD cs i none) ≡ false
+  -- a candidate with more than k of them as near or nearer does not pass: all but one of these are others
+  pub crowded : (i : ℕ) → i < m → k < asNearAmong (take m cs) (getD cs i none) → passesAs ws k (getD cs i none) ≡ false
   pub places : m ≤ free

@@ -7,14 +7,14 @@ ghost use Rattle.table.specs.Stations.{isPoint};
 ghost use Rattle.rules.specs.Rules.{Passing};
 ghost use Rattle.filter.specs.Query.{laidOver};
 ghost use Rattle.vetting.specs.Tested.{entryOf, passesAs, numbersPassing, Keepable};
-use crate::near::nearer_in;
+use crate::near::as_near_in;
 use crate::near::place_of;
 use crate::test::passes;
 use record::Candidate;
 use record::record_at;
 
 // If the candidate passes, its number goes to place n of `kept`; gives back the next free place.
-// `near` of the candidates are nearer to it than the query's place is. It is at most one of them: if they are more than k, k others are nearer, and the tree need not be asked.
+// `near` of the candidates are as near to it as the query's place is, or nearer. It is at most one of them: if they are more than k, k others are, and the tree need not be asked.
 fn noted(table: &[i32], c: Candidate, near: usize, k: usize, kept: &mut [u32], n: usize) -> usize
     requires { ⌜ Passing (now table) × (isPoint (entryOf c) ≡ true) × (n < length (now kept)) × (k < near → passesAs (now table) k c ≡ false) ⌝ }
     ensures { λ r.
@@ -54,7 +54,7 @@ pub fn keep_passing(
     let mut i = 0;
     while i < m {
         let c = record_at(list, i);
-        let near = nearer_in(list, m, c);
+        let near = as_near_in(list, m, c);
         n = noted(table, c, near, k, kept, n);
         i += 1;
     }

@@ -11,9 +11,9 @@ use Rattle.grid.specs.declared.place.Place.{Place}
 use Rattle.grid.specs.declared.rect.Rect.{Rect}
 use Rattle.grid.specs.declared.rect.RectEnds.{RectEnds}
 use Rattle.grid.specs.Place.{PlaceOnGrid, dist², rectEndsOf}
-use Rattle.grid.specs.Nearer.{cornersNearer, allNearer}
+use Rattle.grid.specs.AsNear.{cornersAsNear, allAsNear}
 use Rattle.grid.proofs.Rects.{rect-ends-fit, dist-most}
-use Rattle.grid.proofs.Nearer.{all-nearer}
+use Rattle.grid.proofs.AsNear.{all-as-near}
 use Rattle.order.specs.Lists.{count}
 use Rattle.order.specs.Order.{upFrom}
 use Rattle.filter.specs.Rows.{placeIn}
@@ -24,7 +24,7 @@ use Rattle.filter.proofs.discard.hides_box.Tie as tie
 
 abbrev Inv-loop : tie.InvT-loop
 Inv-loop xs ys squares m q k ends n₀ i₀ n i =
-    (i ≤ m) × (n ≤ i) × ((r : Rect) → ends ≡ rectEndsOf r q → n ≡ count (λ j. cornersNearer r (placeIn xs ys j) q) (upFrom 0 i))
+    (i ≤ m) × (n ≤ i) × ((r : Rect) → ends ≡ rectEndsOf r q → n ≡ count (λ j. cornersAsNear r (placeIn xs ys j) q) (upFrom 0 i))
 
 abbrev μ-loop : tie.MeasureT-loop
 μ-loop xs ys squares m q k ends n₀ i₀ n i = m - i
@@ -37,7 +37,7 @@ found c = rw (c .place-at .ensures) (c .before .before .before .before .before .
 abbrev Test : tie.After-one Inv-loop μ-loop → Rect → ℕ → Bool
 Test c r j =
     let a = c .before .before .before .before .before .before .before .before .args in
-    cornersNearer r (placeIn (a .xs .now) (a .ys .now) j) (a .q)
+    cornersAsNear r (placeIn (a .xs .now) (a .ys .now) j) (a .q)
 
 -- one candidate on
 counted : (c : tie.After-one Inv-loop μ-loop) (r : Rect)
@@ -50,12 +50,12 @@ counted c r e =
     let p = c .before .before .before .place-at in
     let q = a .q in
     let d = s .before .before .pre .1 .1 (l .i) (omega arith) ∙ ap (dist² q) (sym (p .ensures)) in
-    let t = c .before .all-nearer .ensures
-    ∙ ap (allNearer (s .ends .result) (p .result) q) d
-    ∙ ap (λ (x : RectEnds). allNearer x (p .result) q (dist² q (p .result))) e
-    ∙ all-nearer r (p .result) q
-    ∙ ap (λ (x : Place). cornersNearer r x q) (p .ensures) in
-    omega (arith, c .one .ensures, tally (Test c r) (l .i) (l .n) (c .before .all-nearer .result) t (l .inv .2 r e))
+    let t = c .before .all-as-near .ensures
+    ∙ ap (allAsNear (s .ends .result) (p .result) q) d
+    ∙ ap (λ (x : RectEnds). allAsNear x (p .result) q (dist² q (p .result))) e
+    ∙ all-as-near r (p .result) q
+    ∙ ap (λ (x : Place). cornersAsNear r x q) (p .ensures) in
+    omega (arith, c .one .ensures, tally (Test c r) (l .i) (l .n) (c .before .all-as-near .result) t (l .inv .2 r e))
 
 ends-requires : tie.Need-ends-requires Inv-loop μ-loop
 ends-requires c κs = search needs
@@ -66,14 +66,14 @@ loop-holds c = search needs
 place-at-requires : tie.Need-place-at-requires Inv-loop μ-loop
 place-at-requires c κs = search needs
 
-mul-all-nearer : tie.Need-mul-all-nearer Inv-loop μ-loop
-mul-all-nearer c = search needs
+mul-all-as-near : tie.Need-mul-all-as-near Inv-loop μ-loop
+mul-all-as-near c = search needs
 
-shared-slice-read-all-nearer : tie.Need-shared-slice-read-all-nearer Inv-loop μ-loop
-shared-slice-read-all-nearer c = search needs
+shared-slice-read-all-as-near : tie.Need-shared-slice-read-all-as-near Inv-loop μ-loop
+shared-slice-read-all-as-near c = search needs
 
-all-nearer-requires : tie.Need-all-nearer-requires Inv-loop μ-loop
-all-nearer-requires c κs =
+all-as-near-requires : tie.Need-all-as-near-requires Inv-loop μ-loop
+all-as-near-requires c κs =
     let e = c .before .before .before .before in
     let s = e .before .before in
     let i = c .before .before .before .loop .i in
@@ -88,7 +88,7 @@ one-requires : tie.Need-one-requires Inv-loop μ-loop
 one-requires c κs = search needs
 
 add-n : tie.Need-add-n Inv-loop μ-loop
-add-n c = omega (arith, one-most (c .before .all-nearer .result))
+add-n c = omega (arith, one-most (c .before .all-as-near .result))
 
 add-i : tie.Need-add-i Inv-loop μ-loop
 add-i c = search needs
@@ -97,7 +97,7 @@ loop-less : tie.Need-loop-less Inv-loop μ-loop
 loop-less c = search needs
 
 loop-again : tie.Need-loop-again Inv-loop μ-loop
-loop-again c = (omega arith, omega (arith, one-most (c .before .all-nearer .result)), counted c)
+loop-again c = (omega arith, omega (arith, one-most (c .before .all-as-near .result)), counted c)
 
 returns : tie.Need-returns Inv-loop μ-loop
 returns c =
@@ -115,9 +115,9 @@ hides-box-spec =
     ends-requires
     loop-holds
     place-at-requires
-    mul-all-nearer
-    shared-slice-read-all-nearer
-    all-nearer-requires
+    mul-all-as-near
+    shared-slice-read-all-as-near
+    all-as-near-requires
     one-requires
     add-n
     add-i

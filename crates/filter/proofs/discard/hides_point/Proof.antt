@@ -1,4 +1,4 @@
--- `filter::discard::hides_point` meets its contract. The loop's invariant: `n` counts those of the first `i` candidates that are nearer. The measure is what is left of the candidates.
+-- `filter::discard::hides_point` meets its contract. The loop's invariant: `n` counts those of the first `i` candidates that are as near or nearer. The measure is what is left of the candidates.
 -- Assumes nothing.
 use Prim.Native.Nat.{ℕ, _≤_, _-_}
 use native.Mathlib.Omega.{arith}
@@ -8,7 +8,7 @@ use lib.Dec.{leb}
 use borrow.Author.Needs.{needs}
 use Rattle.grid.specs.declared.place.Place.{Place}
 use Rattle.grid.specs.Place.{dist²}
-use Rattle.grid.specs.Nearer.{nearer, nearerTo}
+use Rattle.grid.specs.AsNear.{asNear, asNearTo}
 use Rattle.order.specs.Lists.{count}
 use Rattle.order.specs.Order.{upFrom}
 use Rattle.filter.specs.Rows.{placeIn}
@@ -18,7 +18,7 @@ use Rattle.filter.proofs.discard.hides_point.Statement.{statement}
 use Rattle.filter.proofs.discard.hides_point.Tie as tie
 
 abbrev Inv-loop : tie.InvT-loop
-Inv-loop xs ys m p k far n₀ i₀ n i = (i ≤ m) × (n ≤ i) × (n ≡ count (λ j. nearer (dist² (placeIn xs ys j) p) far) (upFrom 0 i))
+Inv-loop xs ys m p k far n₀ i₀ n i = (i ≤ m) × (n ≤ i) × (n ≡ count (λ j. asNear (dist² (placeIn xs ys j) p) far) (upFrom 0 i))
 
 abbrev μ-loop : tie.MeasureT-loop
 μ-loop xs ys m p k far n₀ i₀ n i = m - i
@@ -37,14 +37,14 @@ square-to-requires-2 c κs =
     let s = c .before .before .before .before in
     (rw (c .place-at .ensures) (s .pre .1 .2 (c .before .before .loop .i) (omega arith)), s .pre .1 .0)
 
-is-nearer-requires : tie.Need-is-nearer-requires Inv-loop μ-loop
-is-nearer-requires c κs = search needs
+is-as-near-requires : tie.Need-is-as-near-requires Inv-loop μ-loop
+is-as-near-requires c κs = search needs
 
 one-requires : tie.Need-one-requires Inv-loop μ-loop
 one-requires c κs = search needs
 
 add-n : tie.Need-add-n Inv-loop μ-loop
-add-n c = omega (arith, one-most (c .before .is-nearer .result))
+add-n c = omega (arith, one-most (c .before .is-as-near .result))
 
 add-i : tie.Need-add-i Inv-loop μ-loop
 add-i c = search needs
@@ -58,16 +58,16 @@ loop-again c =
     let a = s .before .args in
     let l = c .before .before .before .before .before .loop in
     let far = s .square-to .result in
-    let test : ℕ → Bool = λ j. nearer (dist² (placeIn (a .xs .now) (a .ys .now) j) (a .p)) far in
-    let t = c .before .is-nearer .ensures
-    ∙ ap (λ (d : ℕ). nearer d far) (c .before .before .square-to2 .ensures ∙ ap (λ (p : Place). dist² p (a .p)) (c .before .before .before .place-at .ensures)) in (
+    let test : ℕ → Bool = λ j. asNear (dist² (placeIn (a .xs .now) (a .ys .now) j) (a .p)) far in
+    let t = c .before .is-as-near .ensures
+    ∙ ap (λ (d : ℕ). asNear d far) (c .before .before .square-to2 .ensures ∙ ap (λ (p : Place). dist² p (a .p)) (c .before .before .before .place-at .ensures)) in (
       omega arith,
-      omega (arith, one-most (c .before .is-nearer .result)),
-      omega (arith, c .one .ensures, tally test (l .i) (l .n) (c .before .is-nearer .result) t (l .inv .2)),
+      omega (arith, one-most (c .before .is-as-near .result)),
+      omega (arith, c .one .ensures, tally test (l .i) (l .n) (c .before .is-as-near .result) t (l .inv .2)),
     )
 
 returns : tie.Need-returns Inv-loop μ-loop
-unfolding nearerTo
+unfolding asNearTo
 returns c =
     let l = c .before .loop in
     let a = c .before .before .before .args in
@@ -84,7 +84,7 @@ hides-point-spec =
     loop-holds
     place-at-requires
     square-to-requires-2
-    is-nearer-requires
+    is-as-near-requires
     one-requires
     add-n
     add-i

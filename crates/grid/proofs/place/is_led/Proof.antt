@@ -4,15 +4,15 @@ use native.Mathlib.Omega.{arith}
 use Prim.Native.Nat.{ℕ}
 use borrow.Author.Needs.{needs}
 use lib.IntN.{ℤ, pos, negsuc}
-use lib.Signed.{ltZ}
+use lib.Signed.{leZ}
 use mir.Syntax.{w64}
 use mir.ValLaws.{toZ-ofZ, toZ-pos}
-use Rattle.grid.specs.Nearer.{nearer, led}
+use Rattle.grid.specs.AsNear.{asNear, led}
 use Rattle.grid.proofs.place.is_led.Statement.{statement}
 use Rattle.grid.proofs.place.is_led.Tie as tie
 
-test : (d : ℕ) (z : ℤ) → ltZ (pos d) z ≡ led d z
-unfolding led nearer
+test : (d : ℕ) (z : ℤ) → leZ (pos d) z ≡ led d z
+unfolding led asNear
 test d (pos n) = refl
 test d (negsuc n) = refl
 

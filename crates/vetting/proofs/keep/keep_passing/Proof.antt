@@ -1,4 +1,4 @@
--- `vetting::keep::keep_passing` meets its contract: a walk of its MIR, by hand, with a loop (`Denote/Examples/Count.antt`). In each turn a record is read back by `record_at`, those that are nearer to it are counted by `nearer_in`, and the kept numbers are lent again to `noted`, for a lifetime of the call, and come back (`Again.antt`).
+-- `vetting::keep::keep_passing` meets its contract: a walk of its MIR, by hand, with a loop (`Denote/Examples/Count.antt`). In each turn a record is read back by `record_at`, those that are as near to it are counted by `as_near_in`, and the kept numbers are lent again to `noted`, for a lifetime of the call, and come back (`Again.antt`).
 -- Assumes nothing.
 use mathlib.Core.Path.{_≡_, refl, sym, ap, _∙_, subst}
 use Prim.Native.Nat.{ℕ, _+_, _-_, _≤_, _<_, _^_, zero-le}
@@ -47,7 +47,7 @@ use Rattle.table.specs.Stations.{isPoint}
 use Rattle.filter.specs.Query.{laidOver}
 use Rattle.record.specs.declared.Candidate.{Candidate}
 use Rattle.record.specs.Blank.{none}
-use Rattle.vetting.specs.Tested.{entryOf, passesAs, nearerAmong, numbersPassing, Keepable}
+use Rattle.vetting.specs.Tested.{entryOf, passesAs, asNearAmong, numbersPassing, Keepable}
 use Rattle.record.proofs.Candidate as T
 use Rattle.record.proofs.Candidate.Laws as T′
 use Rattle.walks.proofs.Ends.{Called, leaves-said, closes}
@@ -60,10 +60,10 @@ use Rattle.record.proofs.record_at as record-at
 use Rattle.record.proofs.record_at.Symbol as record-at-def
 use Rattle.record.proofs.record_at.Symbol.{name as #record·record-at}
 use Rattle.record.proofs.record_at.Met as record-at-thm
-use Rattle.vetting.proofs.near.nearer_in as nearer-in
-use Rattle.vetting.proofs.near.nearer_in.Symbol as nearer-in-def
-use Rattle.vetting.proofs.near.nearer_in.Symbol.{name as #vetting·near·nearer-in}
-use Rattle.vetting.proofs.near.nearer_in.Met as nearer-in-thm
+use Rattle.vetting.proofs.near.as_near_in as as-near-in
+use Rattle.vetting.proofs.near.as_near_in.Symbol as as-near-in-def
+use Rattle.vetting.proofs.near.as_near_in.Symbol.{name as #vetting·near·as-near-in}
+use Rattle.vetting.proofs.near.as_near_in.Met as as-near-in-thm
 use Rattle.vetting.proofs.keep.noted as noted
 use Rattle.vetting.proofs.keep.noted.Symbol as noted-def
 use Rattle.vetting.proofs.keep.noted.Symbol.{name as #vetting·keep·noted}
@@ -96,7 +96,7 @@ numbered = sliceTy (tyRef (named 2) mut (tyInt w32))
 -- a turn after its test
 abbrev more : Body
 more = seq (call #record·record-at (copy (place 2 []) ∷ copy (place 7 []) ∷ []) (place 8 []))
-    (seq (call #vetting·near·nearer-in (copy (place 2 []) ∷ copy (place 3 []) ∷ copy (place 8 []) ∷ []) (place 9 []))
+    (seq (call #vetting·near·as-near-in (copy (place 2 []) ∷ copy (place 3 []) ∷ copy (place 8 []) ∷ []) (place 9 []))
     (seq (assign (place 11 []) (addrOf (place 5 (field 0 ∷ deref (tyInt w32) ∷ []))))
     (seq (assign (place 12 []) (aggregate (copy (place 11 []) ∷ copy (place 5 (field 1 ∷ [])) ∷ [])))
     (seq (call #vetting·keep·noted (copy (place 1 []) ∷ copy (place 8 []) ∷ copy (place 9 []) ∷ copy (place 4 []) ∷ copy (place 12 []) ∷ copy (place 6 []) ∷ []) (place 6 []))
@@ -110,8 +110,8 @@ module _ {M : Type 1} (𝓤 : URA M) (H : Heap 𝓤) (A : Atoms 𝓤) (mem : Mem
   abbrev RecordAt : Contract 𝓤
   RecordAt = Called 𝓤 H A record-at.ended (record-at.clauses 𝓤 H A mem run)
 
-  abbrev NearerIn : Contract 𝓤
-  NearerIn = Called 𝓤 H A nearer-in.ended (nearer-in.clauses 𝓤 H A mem run)
+  abbrev AsNearIn : Contract 𝓤
+  AsNearIn = Called 𝓤 H A as-near-in.ended (as-near-in.clauses 𝓤 H A mem run)
 
   abbrev Noted : Contract 𝓤
   Noted = Called 𝓤 H A noted.ended (noted.clauses 𝓤 H A mem run)
@@ -172,11 +172,11 @@ module _ {M : Type 1} (𝓤 : URA M) (H : Heap 𝓤) (A : Atoms 𝓤) (W : Given
       qed W (‵ (flft (κs .1 .0) (qs .1 .0)) ∷ ‵ Listed ∷ []) ∵ says ! (lt-of-lt-of-le less (pre .list .room)) $ stack ! 1 $ frame ! $
       nothing ! $ owned ! usize (Is usize) (uint-makes 𝓤 H A W w64) i _ (refl, lt-of-lt-of-le less (le-of-lt gm)) $ fjoin ! $ move ! (1 ∷ 0 ∷ []) $ fjoin ! $ done !
 
-  -- what `nearer_in`'s triple binds outside: the record c at the machine value w
+  -- what `as_near_in`'s triple binds outside: the record c at the machine value w
   abbrev near-args : Candidate → RefT (List Candidate) × (ℕ × (Candidate × Unit {0}))
   near-args c = (lr, (m, (c, tt)))
 
-  abbrev to-near : Candidate → Val → NearerIn 𝓤 H A mem run .Ghost
+  abbrev to-near : Candidate → Val → AsNearIn 𝓤 H A mem run .Ghost
   to-near c w = (((κs .1 .0, tt), (qs .1 .0, tt), tt, near-args c, (s₂ ∷ [], (vint w64 m ∷ [], (w ∷ [], tt)))), tt)
 
   -- c is a point, as each of the records
@@ -184,7 +184,7 @@ module _ {M : Type 1} (𝓤 : URA M) (H : Heap 𝓤) (A : Atoms 𝓤) (W : Given
   is-point i c less e = ap (λ (z : Candidate). isPoint (entryOf z)) e ∙ pre .list .points i less
 
   goes-near : (i : ℕ) (c : Candidate) (w : Val) → i < m → c ≡ getD cs i none
-      → ent 𝓤 (sep 𝓤 (A .lft (κs .1 .0) (qs .1 .0)) (sep 𝓤 (sem 𝓤 H A Listed) (sem 𝓤 H A (R .own c (w ∷ []))))) (NearerIn 𝓤 H A mem run .pre (to-near c w))
+      → ent 𝓤 (sep 𝓤 (A .lft (κs .1 .0) (qs .1 .0)) (sep 𝓤 (sem 𝓤 H A Listed) (sem 𝓤 H A (R .own c (w ∷ []))))) (AsNearIn 𝓤 H A mem run .pre (to-near c w))
   goes-near i c w less e =
       qed W (‵ (flft (κs .1 .0) (qs .1 .0)) ∷ ‵ Listed ∷ ‵ (R .own c (w ∷ [])) ∷ []) ∵ says ! (pre .list, is-point i c less e) $ stack ! 1 $ frame ! $
       nothing ! $ move ! (2 ∷ 0 ∷ []) $ fjoin ! $ owned ! usize (Is usize) (uint-makes 𝓤 H A W w64) m _ (refl, gm) $ fjoin ! $ move ! (1 ∷ 0 ∷ []) $ fjoin ! $ done !
@@ -196,7 +196,7 @@ module _ {M : Type 1} (𝓤 : URA M) (H : Heap 𝓤) (A : Atoms 𝓤) (W : Given
   few : (i : Upto) → i .2 < 2 ^ 64
   few i = lt-of-le-of-lt (i .4 .few) (lt-of-le-of-lt (i .1) gm)
 
-  -- what `noted`'s triple binds outside: the record c at the machine value w, how many are nearer to it, and the numbers lent again for the lifetime ν, under the name δ
+  -- what `noted`'s triple binds outside: the record c at the machine value w, how many are as near to it, and the numbers lent again for the lifetime ν, under the name δ
   abbrev passed : GName → Upto → Candidate → ℕ → RefT (List ℤ) × (Candidate × (ℕ × (ℕ × (RefT (List ℕ) × (ℕ × Unit {0})))))
   passed δ i c near = (tr, (c, (near, (k, (x δ (i .3), (i .2, tt))))))
 
@@ -207,12 +207,12 @@ module _ {M : Type 1} (𝓤 : URA M) (H : Heap 𝓤) (A : Atoms 𝓤) (W : Given
   abbrev NotedAs : Upto → Candidate → ℕ → List ℕ → Type 0
   NotedAs i c r l = (r ≡ cond (passesAs ws k c) (i .2 + 1) (i .2)) × (l ≡ cond (passesAs ws k c) (set (i .3) (i .2) (c .number)) (i .3))
 
-  -- where more than k are nearer, c does not pass
-  crowded : (i : ℕ) (c : Candidate) (near : ℕ) → i < m → c ≡ getD cs i none → near ≡ nearerAmong (take m cs) c → k < near → passesAs ws k c ≡ false
+  -- where more than k are as near, c does not pass
+  crowded : (i : ℕ) (c : Candidate) (near : ℕ) → i < m → c ≡ getD cs i none → near ≡ asNearAmong (take m cs) c → k < near → passesAs ws k c ≡ false
   crowded i c near less e f =
-      subst (λ (n : ℕ). k < n → passesAs ws k c ≡ false) (sym f) (subst (λ (z : Candidate). k < nearerAmong (take m cs) z → passesAs ws k z ≡ false) (sym e) (pre .crowded i less))
+      subst (λ (n : ℕ). k < n → passesAs ws k c ≡ false) (sym f) (subst (λ (z : Candidate). k < asNearAmong (take m cs) z → passesAs ws k z ≡ false) (sym e) (pre .crowded i less))
 
-  goes : (ν : ℕ) (δ : GName) (i : Upto) (c : Candidate) (w : Val) (near : ℕ) → near < 2 ^ 64 → Holds (ltb (i .0) m) → c ≡ getD cs (i .0) none → near ≡ nearerAmong (take m cs) c
+  goes : (ν : ℕ) (δ : GName) (i : Upto) (c : Candidate) (w : Val) (near : ℕ) → near < 2 ^ 64 → Holds (ltb (i .0) m) → c ≡ getD cs (i .0) none → near ≡ asNearAmong (take m cs) c
       → ent 𝓤 (⋆ 𝓤 H A (‵ (flft (κs .0) (qs .0)) ∷ ‵ (flft (ν ∷ []) fullShare) ∷ ‵ Tabled ∷ ‵ (R .own c (w ∷ [])) ∷ ‵ (MutSlice (named 2) (ν ∷ []) u32 .own (x δ (i .3)) (s ∷ [])) ∷ [])) (Noted 𝓤 H A mem run .pre (to ν δ i c w near))
   goes ν δ i c w near gn less e f =
       let l : i .0 < m = ltb→lt (i .0) m less in
@@ -238,7 +238,7 @@ module _ {M : Type 1} (𝓤 : URA M) (H : Heap 𝓤) (A : Atoms 𝓤) (W : Given
   abbrev Nearer : Upto → Upto → Type 0
   Nearer = NearerTo (λ (i : Upto). i .0) m
 
-  module _ (𝓣 : Tables 𝓤 H) (fm : FmC 𝓤 H (W .laws) (𝓣 .C)) (known : Triple 𝓤 (𝓣 .C #vetting·keep·noted) (Noted 𝓤 H A mem run)) (known-record : Triple 𝓤 (𝓣 .C #record·record-at) (RecordAt 𝓤 H A mem run)) (known-near : Triple 𝓤 (𝓣 .C #vetting·near·nearer-in) (NearerIn 𝓤 H A mem run)) (l₀ l₁ l₂ l₃ l₄ l₅ l₆ l₇ l₈ l₉ l₁₀ l₁₁ l₁₂ : ℕ) where
+  module _ (𝓣 : Tables 𝓤 H) (fm : FmC 𝓤 H (W .laws) (𝓣 .C)) (known : Triple 𝓤 (𝓣 .C #vetting·keep·noted) (Noted 𝓤 H A mem run)) (known-record : Triple 𝓤 (𝓣 .C #record·record-at) (RecordAt 𝓤 H A mem run)) (known-near : Triple 𝓤 (𝓣 .C #vetting·near·as-near-in) (AsNearIn 𝓤 H A mem run)) (l₀ l₁ l₂ l₃ l₄ l₅ l₆ l₇ l₈ l₉ l₁₀ l₁₁ l₁₂ : ℕ) where
     abbrev C : Calls 𝓤 H
     C = 𝓣 .C
 
@@ -268,9 +268,9 @@ module _ {M : Type 1} (𝓤 : URA M) (H : Heap 𝓤) (A : Atoms 𝓤) (W : Given
         move ! (31 ∷ []) $ use1 W (‵ Listed ⊛ ‵ Listed) (shr-slice-copy 𝓤 H A W (named 1) (κs .1 .0) R .twice lr (s₂ ∷ [])) $ split ! $ move ! (31 ∷ 0 ∷ []) $ use2 W (raw (RecordAt 𝓤 H A mem run .pre (at-record (i .0)))) (goes-record (i .0) (within less)) $
         leaves-said ! fm record-at.ended (record-at.clauses 𝓤 H A mem run) known-record (at-record (i .0)) (λ c ls. c ≡ getD cs (i .0) none) (λ c ls. id⊢ 𝓤 _) (arg ! 22 refl (arg ! 12 refl (no-more !))) (λ w c ls e is.
         land ! (from ! (stop !)) (init ! 11 refl (LL.lawful T.the-type T′.the-laws 𝓤 H A W .typed c _ is .0)) $
-        -- those that are nearer to it are counted: the list is passed on as a copy, and c is made again of what it is
-        move ! (2 ∷ []) $ use1 W (‵ Listed ⊛ ‵ Listed) (shr-slice-copy 𝓤 H A W (named 1) (κs .1 .0) R .twice lr (s₂ ∷ [])) $ split ! $ move ! (3 ∷ 0 ∷ 2 ∷ []) $ use3 W (raw (NearerIn 𝓤 H A mem run .pre (to-near c w))) (goes-near (i .0) c w (within less) e) $
-        leaves-said ! fm nearer-in.ended (nearer-in.clauses 𝓤 H A mem run) known-near (to-near c w) (λ near ls. near ≡ nearerAmong (take m cs) c) (λ near ls. id⊢ 𝓤 _) (arg ! 22 refl (arg ! 20 refl (arg ! 10 refl (no-more !)))) (λ v near ls en isn.
+        -- those that are as near to it are counted: the list is passed on as a copy, and c is made again of what it is
+        move ! (2 ∷ []) $ use1 W (‵ Listed ⊛ ‵ Listed) (shr-slice-copy 𝓤 H A W (named 1) (κs .1 .0) R .twice lr (s₂ ∷ [])) $ split ! $ move ! (3 ∷ 0 ∷ 2 ∷ []) $ use3 W (raw (AsNearIn 𝓤 H A mem run .pre (to-near c w))) (goes-near (i .0) c w (within less) e) $
+        leaves-said ! fm as-near-in.ended (as-near-in.clauses 𝓤 H A mem run) known-near (to-near c w) (λ near ls. near ≡ asNearAmong (take m cs) c) (λ near ls. id⊢ 𝓤 _) (arg ! 22 refl (arg ! 20 refl (arg ! 10 refl (no-more !)))) (λ v near ls en isn.
         land ! (from ! (stop !)) (init ! 9 refl (uint-lawful 𝓤 H A W w64 .typed near _ isn .0)) $
         rewrite ! 9 (λ (z : Val). ‵ (fat fullShare word l₉ 0 z)) (ap only (isn .0)) refl $
         drop ! $ owned ! R (Is R) ((LL.makes T.the-type T′.the-plain) 𝓤 H A) c _ is $
@@ -322,7 +322,7 @@ module _ {M : Type 1} (𝓤 : URA M) (H : Heap 𝓤) (A : Atoms 𝓤) (W : Given
             let e : i .0 ≡ m = omega arith in
             (i .4 .count ∙ ap (λ (j : ℕ). length (numbersPassing ws k (take j cs))) e, i .4 .list ∙ ap (λ (j : ℕ). laidOver (numbersPassing ws k (take j cs)) ys) e)
 
-  walk : (𝓣 : Tables 𝓤 H) → FmC 𝓤 H (W .laws) (𝓣 .C) → Triple 𝓤 (𝓣 .C #vetting·keep·noted) (Noted 𝓤 H A mem run) → Triple 𝓤 (𝓣 .C #record·record-at) (RecordAt 𝓤 H A mem run) → Triple 𝓤 (𝓣 .C #vetting·near·nearer-in) (NearerIn 𝓤 H A mem run)
+  walk : (𝓣 : Tables 𝓤 H) → FmC 𝓤 H (W .laws) (𝓣 .C) → Triple 𝓤 (𝓣 .C #vetting·keep·noted) (Noted 𝓤 H A mem run) → Triple 𝓤 (𝓣 .C #record·record-at) (RecordAt 𝓤 H A mem run) → Triple 𝓤 (𝓣 .C #vetting·near·as-near-in) (AsNearIn 𝓤 H A mem run)
       → ent 𝓤 (onEntry 𝓤 H A f.signature κs qs a at) (WpFn 𝓤 H (𝓣 .C) (𝓣 .Λ) code.function (s₁ ∷ s₂ ∷ vint w64 m ∷ vint w64 k ∷ s ∷ []) Post)
   walk 𝓣 fm known known-record known-near =
       qed W (raw (onEntry 𝓤 H A f.signature κs qs a at) ∷ []) ∵ apart ! f.signature κs qs a at $ keep ! (7 ∷ 2 ∷ 0 ∷ 1 ∷ 3 ∷ 4 ∷ []) $
@@ -339,7 +339,7 @@ keep-passing-spec 𝓤 H 𝓜 𝓖 𝓡 =
     let W = givenOf 𝓤 H 𝓜 𝓖 in
     let noted-met = cited 𝓤 H (Noted 𝓤 H (𝓖 .A) (𝓜 .mem) (𝓡 .run)) 𝓜 𝓡 code.env noted-def.name noted-def.routine code.calls-vetting·keep·noted (noted-thm.met 𝓤 H 𝓜 𝓖 𝓡) in
     let record-met = cited 𝓤 H (RecordAt 𝓤 H (𝓖 .A) (𝓜 .mem) (𝓡 .run)) 𝓜 𝓡 code.env record-at-def.name record-at-def.routine code.calls-record·record-at (record-at-thm.met 𝓤 H 𝓜 𝓖 𝓡) in
-    let near-met = cited 𝓤 H (NearerIn 𝓤 H (𝓖 .A) (𝓜 .mem) (𝓡 .run)) 𝓜 𝓡 code.env nearer-in-def.name nearer-in-def.routine code.calls-vetting·near·nearer-in (nearer-in-thm.met 𝓤 H 𝓜 𝓖 𝓡) in
+    let near-met = cited 𝓤 H (AsNearIn 𝓤 H (𝓖 .A) (𝓜 .mem) (𝓡 .run)) 𝓜 𝓡 code.env as-near-in-def.name as-near-in-def.routine code.calls-vetting·near·as-near-in (as-near-in-thm.met 𝓤 H 𝓜 𝓖 𝓡) in
     closes 𝓤 H 𝓜 𝓖 𝓡 code.env #vetting·keep·keep-passing code.function (code.unfolded 𝓤 H 𝓜 𝓡) f.ended stayed (goes-none-slice 𝓤 H (𝓖 .A) W 3 (0 ∷ []) tt (plain (λ _. i32)) yes, (goes-none-slice 𝓤 H (𝓖 .A) W 3 (1 ∷ []) tt (plain (λ _. R)) yes, (goes-none 𝓤 H (𝓖 .A) W 3 (λ _. usize) yes (λ κs x f. refl), (goes-none 𝓤 H (𝓖 .A) W 3 (λ _. usize) yes (λ κs x f. refl), (goes-slice 𝓤 H (𝓖 .A) W 3 2 tt (plain (λ _. u32)), tt)))))
     (f.clauses 𝓤 H (𝓖 .A) (𝓜 .mem) (𝓡 .run)) (λ κs. (slice-vals, (slice-vals, (uint-vals w64, (uint-vals w64, (slice-vals, tt))))))
     (λ κs. (shr-slice-tells (named 0) (κs .0) i32, (shr-slice-tells (named 1) (κs .1 .0) R, (uint-tells w64, (uint-tells w64, (mut-slice-tells (named 2) (κs .1 .1 .0) u32, tt))))))

@@ -1,4 +1,4 @@
--- `vetting::keep::noted` meets its contract: where too many are nearer the caller knows that the candidate does not pass; else the test is that of the record. Assumes nothing.
+-- `vetting::keep::noted` meets its contract: where too many are as near the caller knows that the candidate does not pass; else the test is that of the record. Assumes nothing.
 use Prim.Native.Nat.{ℕ}
 use native.Mathlib.Omega.{arith}
 use mathlib.Core.Path.{_≡_, refl, sym, _∙_}

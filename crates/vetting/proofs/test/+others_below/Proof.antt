@@ -8,13 +8,13 @@ use lib.ListN.{length}
 use borrow.Author.Needs.{needs}
 use borrow.Author.Tests.{not-true}
 use Rattle.grid.specs.Place.{leastSquare}
-use Rattle.grid.specs.Nearer.{nearer}
+use Rattle.grid.specs.AsNear.{asNear}
 use Rattle.order.specs.Lists.{count as countOf, join}
 use Rattle.table.specs.declared.node.Entry.{Entry}
 use Rattle.table.specs.Words.{Words}
 use Rattle.table.specs.Page.{blankEntry}
 use Rattle.table.specs.Slots.{entriesAt}
-use Rattle.vetting.specs.Test.{otherNearer, below}
+use Rattle.vetting.specs.Test.{otherAsNear, below}
 use Rattle.filter.proofs.NodeTurns.{passable-slot, passable-zero, IsChild}
 use Rattle.vetting.proofs.Below.{SoFar, sofar-next, sofar-enough, sofar-all, box-none, below-zero, below-above, Box, child-at}
 use borrow.Fn.Kinds.{In}
@@ -23,7 +23,7 @@ use Rattle.vetting.proofs.test.others_below.Reads as others-below
 use Rattle.vetting.proofs.test.others_below.Kinds as others-below-kinds
 use Rattle.vetting.proofs.test.+others_below.Lts-others_below as lts
 use Rattle.vetting.proofs.test.others_in.Reads as others-in-reads
-use Rattle.grid.proofs.place.is_nearer.Reads as is-nearer-reads
+use Rattle.grid.proofs.place.is_as_near.Reads as is-as-near-reads
 use Rattle.grid.proofs.rect.Rect.least_square.Reads as least-square-reads
 use Rattle.table.proofs.slot.count_at.Reads as count-at-reads
 use Rattle.table.proofs.slot.entry_at.Reads as entry-at-reads
@@ -55,8 +55,8 @@ knows t = (
   entry-at-reads.Learnt,
   least-square-reads.Asked,
   least-square-reads.Learnt,
-  is-nearer-reads.Asked,
-  is-nearer-reads.Learnt,
+  is-as-near-reads.Asked,
+  is-as-near-reads.Learnt,
   deeper t,
   others-below.Post,
 )
@@ -67,7 +67,7 @@ under ws level e = below (level - 1) ws (e .reference)
 
 abbrev Inv-loop : lts.InvT-loop
 Inv-loop table slot level number p far most count found₀ i₀ found i =
-    (i ≤ count) × SoFar (otherNearer number p far) (under table level) (entriesAt table slot) most i found
+    (i ≤ count) × SoFar (otherAsNear number p far) (under table level) (entriesAt table slot) most i found
 
 abbrev μ-loop : lts.MeasureT-loop
 μ-loop table slot level number p far most count found₀ i₀ found i = count - i
@@ -109,13 +109,13 @@ child-here t e =
 next-here : (t : ℕ) (e : AtEntry t) (more : ℕ)
     → let l = e .before .before .before in
     let a = l .before .before .before .args in
-    let P = otherNearer (a .number) (a .p) (a .far) in
+    let P = otherAsNear (a .number) (a .p) (a .far) in
     more ≡ min (a .most - l .loop .found) (countOf P (under (a .table .now) (a .level) (e .entry-at .result)))
     → SoFar P (under (a .table .now) (a .level)) (entriesAt (a .table .now) (a .slot)) (a .most) (l .loop .i + 1) (l .loop .found + more)
 next-here t e more h =
     let l = e .before .before .before in
     let a = l .before .before .before .args in
-    sofar-next (otherNearer (a .number) (a .p) (a .far)) (under (a .table .now) (a .level)) (entriesAt (a .table .now) (a .slot)) (a .most) (l .loop .i) (l .loop .found) more blankEntry
+    sofar-next (otherAsNear (a .number) (a .p) (a .far)) (under (a .table .now) (a .level)) (entriesAt (a .table .now) (a .slot)) (a .most) (l .loop .i) (l .loop .found) more blankEntry
     (in-node t e) (omega (arith, e .before .if2 .left)) (l .loop .inv .1) (rw (e .entry-at .ensures) at h)
 
 others-in-requires : (t : ℕ) → lts.Need-others-in-requires (knows t) (here t) others-below.Post Inv-loop μ-loop
@@ -145,7 +145,7 @@ returns-2 t c =
     let l = c .before .before in
     let a = l .before .before .before .args in
     rw (all-under t l)
-    (sofar-enough (otherNearer (a .number) (a .p) (a .far)) (under (a .table .now) (a .level)) (entriesAt (a .table .now) (a .slot)) (a .most) (l .loop .i) (l .loop .found) (c .if2 .taken) (l .loop .inv .1))
+    (sofar-enough (otherAsNear (a .number) (a .p) (a .far)) (under (a .table .now) (a .level)) (entriesAt (a .table .now) (a .slot)) (a .most) (l .loop .i) (l .loop .found) (c .if2 .taken) (l .loop .inv .1))
 
 entry-at-requires : (t : ℕ) → lts.Need-entry-at-requires (knows t) (here t) others-below.Post Inv-loop μ-loop
 entry-at-requires t c κs =
@@ -163,8 +163,8 @@ add-i t c = search needs
 least-square-requires : (t : ℕ) → lts.Need-least-square-requires (knows t) (here t) others-below.Post Inv-loop μ-loop
 least-square-requires t c κs = (child-here t c .0 .0, c .before .before .before .before .before .before .pre .1 .0 .1)
 
-is-nearer-requires : (t : ℕ) → lts.Need-is-nearer-requires (knows t) (here t) others-below.Post Inv-loop μ-loop
-is-nearer-requires t c κs = tt
+is-as-near-requires : (t : ℕ) → lts.Need-is-as-near-requires (knows t) (here t) others-below.Post Inv-loop μ-loop
+is-as-near-requires t c κs = tt
 
 loop-less : (t : ℕ) → lts.Need-loop-less (knows t) (here t) others-below.Post Inv-loop μ-loop
 loop-less t c = search needs
@@ -176,8 +176,8 @@ loop-again t c =
     let w = e .before .before in
     let l = w .before in
     let a = l .before .before .before .args in
-    let far : nearer (leastSquare (e .entry-at .result .rect) (a .p)) (a .far) ≡ false =
-    rw (← (o .before .least-square .ensures)) (sym (o .is-nearer .ensures) ∙ not-true _ (c .if3 .taken)) in
+    let far : asNear (leastSquare (e .entry-at .result .rect) (a .p)) (a .far) ≡ false =
+    rw (← (o .before .least-square .ensures)) (sym (o .is-as-near .ensures) ∙ not-true _ (c .if3 .taken)) in
     let none = box-none (a .number) (a .p) (a .far) (e .entry-at .result .rect) (under (a .table .now) (a .level) (e .entry-at .result)) (child-here t e .1 .0) far in
     (omega (arith, w .loop-test .taken), omega (arith, next-here t e 0 (omega (arith, none))))
 
@@ -214,7 +214,7 @@ returns-3 t c =
     let n = l .before in
     let a = n .before .before .args in
     rw (all-under t l)
-    (sofar-all (otherNearer (a .number) (a .p) (a .far)) (under (a .table .now) (a .level)) (entriesAt (a .table .now) (a .slot)) (a .most) (l .loop .i) (l .loop .found) (omega (arith, c .loop-test .left, n .count-at .ensures)) (l .loop .inv .1))
+    (sofar-all (otherAsNear (a .number) (a .p) (a .far)) (under (a .table .now) (a .level)) (entriesAt (a .table .now) (a .slot)) (a .most) (l .loop .i) (l .loop .found) (omega (arith, c .loop-test .left, n .count-at .ensures)) (l .loop .inv .1))
 
 pub +others-below-spec : {M : Type 1} → statement M
 +others-below-spec = close μ-level λ t. lts.spec (knows t)
@@ -230,7 +230,7 @@ pub +others-below-spec : {M : Type 1} → statement M
     (entry-at-requires t)
     (add-i t)
     (least-square-requires t)
-    (is-nearer-requires t)
+    (is-as-near-requires t)
     (loop-less t)
     (loop-again t)
     (sub-others-below t)

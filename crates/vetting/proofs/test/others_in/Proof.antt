@@ -13,7 +13,7 @@ use Rattle.table.specs.declared.node.Entry.{Entry}
 use Rattle.table.specs.Page.{blankEntry}
 use Rattle.table.specs.Slots.{entriesAt}
 use Rattle.table.specs.Stations.{isPoint}
-use Rattle.vetting.specs.Test.{otherNearer}
+use Rattle.vetting.specs.Test.{otherAsNear}
 use Rattle.vetting.proofs.Below.{SoFar, sofar-next, sofar-enough, sofar-all}
 use Rattle.vetting.proofs.test.others_in.Statement.{statement}
 use Rattle.vetting.proofs.test.others_in.Tie as tie
@@ -24,7 +24,7 @@ alone e = e ∷ []
 
 abbrev Inv-loop : tie.InvT-loop
 Inv-loop table slot number p far most count found₀ i₀ found i =
-    (i ≤ count) × SoFar (otherNearer number p far) alone (entriesAt table slot) most i found
+    (i ≤ count) × SoFar (otherAsNear number p far) alone (entriesAt table slot) most i found
 
 abbrev μ-loop : tie.MeasureT-loop
 μ-loop table slot number p far most count found₀ i₀ found i = count - i
@@ -39,7 +39,7 @@ returns : tie.Need-returns Inv-loop μ-loop
 returns c =
     let l = c .before .before in
     let a = l .before .before .args in
-    let P = otherNearer (a .number) (a .p) (a .far) in
+    let P = otherAsNear (a .number) (a .p) (a .far) in
     let es = entriesAt (a .table .now) (a .slot) in
     sofar-enough P alone es (a .most) (l .loop .i) (l .loop .found) (omega (arith, c .if1 .taken)) (l .loop .inv .1)
     ∙ ap (λ l. min (a .most) (countOf P l)) (join-one es)
@@ -49,8 +49,8 @@ entry-at-requires c κs =
     let t = c .before in
     (omega arith, omega arith, omega (arith, t .loop-test .taken, t .before .before .count-at .ensures))
 
-is-other-nearer-requires : tie.Need-is-other-nearer-requires Inv-loop μ-loop
-is-other-nearer-requires c κs =
+is-other-as-near-requires : tie.Need-is-other-as-near-requires Inv-loop μ-loop
+is-other-as-near-requires c κs =
     let t = c .before .before in
     let n = t .before .before in
     let s = n .before in
@@ -76,13 +76,13 @@ loop-again c =
     let l = t .before in
     let n = l .before in
     let a = n .before .args in
-    let P = otherNearer (a .number) (a .p) (a .far) in
+    let P = otherAsNear (a .number) (a .p) (a .far) in
     let es = entriesAt (a .table .now) (a .slot) in
     let i = l .loop .i in
     let found = l .loop .found in
     let inside : i < length es = omega (arith, t .loop-test .taken, n .count-at .ensures) in
-    let tested : o .is-other-nearer .result ≡ P (getD es i blankEntry) = rw (← (e .entry-at .ensures)) (o .is-other-nearer .ensures) in
-    let next : (b : Bool) → o .is-other-nearer .result ≡ b → (more : ℕ) → more ≡ min (a .most - found) (one b + 0) → SoFar P alone es (a .most) (i + 1) (found + more) = λ b h more m.
+    let tested : o .is-other-as-near .result ≡ P (getD es i blankEntry) = rw (← (e .entry-at .ensures)) (o .is-other-as-near .ensures) in
+    let next : (b : Bool) → o .is-other-as-near .result ≡ b → (more : ℕ) → more ≡ min (a .most - found) (one b + 0) → SoFar P alone es (a .most) (i + 1) (found + more) = λ b h more m.
     sofar-next P alone es (a .most) i found more blankEntry inside (omega (arith, e .before .if1 .left)) (l .loop .inv .1) (rw (← tested, h) m) in
     ⊎-elim
     (λ w. (omega (arith, t .loop-test .taken), omega (arith, next true (w .0 .taken) 1 (omega (arith, e .before .if1 .left)))))
@@ -94,7 +94,7 @@ returns-2 c =
     let l = c .before in
     let n = l .before in
     let a = n .before .args in
-    let P = otherNearer (a .number) (a .p) (a .far) in
+    let P = otherAsNear (a .number) (a .p) (a .far) in
     let es = entriesAt (a .table .now) (a .slot) in
     sofar-all P alone es (a .most) (l .loop .i) (l .loop .found) (omega (arith, c .loop-test .left, n .count-at .ensures)) (l .loop .inv .1)
     ∙ ap (λ l. min (a .most) (countOf P l)) (join-one es)
@@ -109,7 +109,7 @@ others-in-spec =
     loop-holds
     returns
     entry-at-requires
-    is-other-nearer-requires
+    is-other-as-near-requires
     add-found
     add-i
     loop-less

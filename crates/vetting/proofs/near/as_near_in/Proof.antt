@@ -1,4 +1,4 @@
--- `vetting::near::nearer_in` meets its contract: a walk of its MIR, by hand, with a loop, as that of `keep_passing`. In each turn a record is read back by `record_at` and handed to `nearer_one` with c.
+-- `vetting::near::as_near_in` meets its contract: a walk of its MIR, by hand, with a loop, as that of `keep_passing`. In each turn a record is read back by `record_at` and handed to `as_near_one` with c.
 -- Assumes nothing.
 use mathlib.Core.Path.{_≡_, refl, ap, _∙_}
 use Prim.Native.Nat.{ℕ, _+_, _-_, _≤_, _<_, _^_, zero-le}
@@ -43,7 +43,7 @@ use Rattle.order.specs.Lists.{one}
 use Rattle.table.specs.Stations.{isPoint}
 use Rattle.record.specs.declared.Candidate.{Candidate}
 use Rattle.record.specs.Blank.{none}
-use Rattle.vetting.specs.Tested.{entryOf, nearerAs, nearerAmong, Readable}
+use Rattle.vetting.specs.Tested.{entryOf, asNearToIt, asNearAmong, Readable}
 use Rattle.record.proofs.Candidate as T
 use Rattle.record.proofs.Candidate.Laws as T′
 use Rattle.walks.proofs.Ends.{Called, leaves-said, closes}
@@ -55,15 +55,15 @@ use Rattle.record.proofs.record_at as record-at
 use Rattle.record.proofs.record_at.Symbol as record-at-def
 use Rattle.record.proofs.record_at.Symbol.{name as #record·record-at}
 use Rattle.record.proofs.record_at.Met as record-at-thm
-use Rattle.vetting.proofs.near.nearer_one as nearer-one
-use Rattle.vetting.proofs.near.nearer_one.Symbol as nearer-one-def
-use Rattle.vetting.proofs.near.nearer_one.Symbol.{name as #vetting·near·nearer-one}
-use Rattle.vetting.proofs.near.nearer_one.Met as nearer-one-thm
-use Rattle.vetting.proofs.near.nearer_in.Key.{name as #vetting·near·nearer-in}
-use Rattle.vetting.proofs.near.nearer_in as f
-use Rattle.vetting.proofs.near.nearer_in.Statement as stated
-use Rattle.vetting.proofs.near.nearer_in.Code as code
-use Rattle.vetting.proofs.near.nearer_in.Code.Mir as mir′
+use Rattle.vetting.proofs.near.as_near_one as as-near-one
+use Rattle.vetting.proofs.near.as_near_one.Symbol as as-near-one-def
+use Rattle.vetting.proofs.near.as_near_one.Symbol.{name as #vetting·near·as-near-one}
+use Rattle.vetting.proofs.near.as_near_one.Met as as-near-one-thm
+use Rattle.vetting.proofs.near.as_near_in.Key.{name as #vetting·near·as-near-in}
+use Rattle.vetting.proofs.near.as_near_in as f
+use Rattle.vetting.proofs.near.as_near_in.Statement as stated
+use Rattle.vetting.proofs.near.as_near_in.Code as code
+use Rattle.vetting.proofs.near.as_near_in.Code.Mir as mir′
 
 abbrev R : RattleType
 R = T.the-row
@@ -78,7 +78,7 @@ listed = sliceTy (tyRef (named 0) imm (pointee (R .written)))
 -- a turn after its test
 abbrev more : Body
 more = seq (call #record·record-at (copy (place 1 []) ∷ copy (place 5 []) ∷ []) (place 6 []))
-    (seq (call #vetting·near·nearer-one (copy (place 6 []) ∷ copy (place 3 []) ∷ []) (place 8 []))
+    (seq (call #vetting·near·as-near-one (copy (place 6 []) ∷ copy (place 3 []) ∷ []) (place 8 []))
     (seq (assign (place 4 []) (op2 (add unsigned) (copy (place 4 [])) (copy (place 8 []))))
     (assign (place 5 []) (op2 (add unsigned) (copy (place 5 [])) (int w64 1)))))
 
@@ -93,8 +93,8 @@ module _ {M : Type 1} (𝓤 : URA M) (H : Heap 𝓤) (A : Atoms 𝓤) (mem : Mem
   abbrev RecordAt : Contract 𝓤
   RecordAt = Called 𝓤 H A record-at.ended (record-at.clauses 𝓤 H A mem run)
 
-  abbrev NearerOne : Contract 𝓤
-  NearerOne = Called 𝓤 H A nearer-one.ended (nearer-one.clauses 𝓤 H A mem run)
+  abbrev AsNearOne : Contract 𝓤
+  AsNearOne = Called 𝓤 H A as-near-one.ended (as-near-one.clauses 𝓤 H A mem run)
 
 module _ {M : Type 1} (𝓤 : URA M) (H : Heap 𝓤) (A : Atoms 𝓤) (W : Given 𝓤 H A) (mem : Memory → SProp 𝓤) (run : Routine → Fun 𝓤) (κ : Lft) (q : Share)
     (lr : RefT (List Candidate)) (m : ℕ) (c : Candidate) (rl : Room R (length (now lr))) (gm : m < 2 ^ 64) (gc : Is R c (T′.lowered c ∷ []))
@@ -135,26 +135,26 @@ module _ {M : Type 1} (𝓤 : URA M) (H : Heap 𝓤) (A : Atoms 𝓤) (W : Given
       qed W (‵ (flft κ q) ∷ ‵ Listed ∷ []) ∵ says ! (lt-of-lt-of-le less (pre .0 .room)) $ stack ! 1 $ frame ! $
       nothing ! $ owned ! usize (Is usize) (uint-makes 𝓤 H A W w64) i _ (refl, lt-of-lt-of-le less (le-of-lt gm)) $ fjoin ! $ move ! (1 ∷ 0 ∷ []) $ fjoin ! $ done !
 
-  -- what `nearer_one`'s triple binds outside: the record d at the machine value w, and c
+  -- what `as_near_one`'s triple binds outside: the record d at the machine value w, and c
   abbrev one-args : Candidate → Candidate × (Candidate × Unit {0})
   one-args d = (d, (c, tt))
 
-  abbrev to-one : Candidate → Val → NearerOne 𝓤 H A mem run .Ghost
+  abbrev to-one : Candidate → Val → AsNearOne 𝓤 H A mem run .Ghost
   to-one d w = ((tt, tt, tt, one-args d, (w ∷ [], (w₀ ∷ [], tt))), tt)
 
-  goes-one : (i : ℕ) (d : Candidate) (w : Val) → i < m → d ≡ getD cs i none → ent 𝓤 (sem 𝓤 H A (R .own d (w ∷ []))) (NearerOne 𝓤 H A mem run .pre (to-one d w))
+  goes-one : (i : ℕ) (d : Candidate) (w : Val) → i < m → d ≡ getD cs i none → ent 𝓤 (sem 𝓤 H A (R .own d (w ∷ []))) (AsNearOne 𝓤 H A mem run .pre (to-one d w))
   goes-one i d w less e =
       qed W (‵ (R .own d (w ∷ [])) ∷ []) ∵ says ! (ap (λ (z : Candidate). isPoint (entryOf z)) e ∙ pre .0 .points i less, pre .1) $
       nothing ! $ frame ! $ nothing ! $ owned ! R (Is R) ((LL.makes T.the-type T′.the-plain) 𝓤 H A) c _ gc $ fjoin ! $ move ! (1 ∷ 0 ∷ []) $ fjoin ! $ done !
 
-  -- where a turn begins: i records were read, and n of them are nearer
+  -- where a turn begins: i records were read, and n of them are as near
   abbrev Upto : Type 0
   Upto = (i : ℕ) × (i ≤ m) × (n : ℕ) × Counted cs c i n
 
   few : (i : Upto) → i .2 < 2 ^ 64
   few i = lt-of-le-of-lt (i .3 .few) (lt-of-le-of-lt (i .1) gm)
 
-  exits : (n : ℕ) → n < 2 ^ 64 → n ≡ nearerAmong (take m cs) c → ent 𝓤 (⋆ 𝓤 H A (‵ (flft κ q) ∷ ‵ Listed ∷ [])) (Post (vint w64 n))
+  exits : (n : ℕ) → n < 2 ^ 64 → n ≡ asNearAmong (take m cs) c → ent 𝓤 (⋆ 𝓤 H A (‵ (flft κ q) ∷ ‵ Listed ∷ [])) (Post (vint w64 n))
   exits n g e =
       qed W (‵ (flft κ q) ∷ ‵ Listed ∷ []) ∵
       suffices ! _ (ends-at 𝓤 H A f.ended stayed (f.clauses 𝓤 H A mem run) W (((κ, tt), (q, tt), tt, a, at), tt) (vint w64 n) n (tt, (tt, (tt, tt))) (tt, (tt, (tt, tt)))) $ says ! e $
@@ -165,7 +165,7 @@ module _ {M : Type 1} (𝓤 : URA M) (H : Heap 𝓤) (A : Atoms 𝓤) (W : Given
   abbrev Nearer : Upto → Upto → Type 0
   Nearer = NearerTo (λ (i : Upto). i .0) m
 
-  module _ (𝓣 : Tables 𝓤 H) (fm : FmC 𝓤 H (W .laws) (𝓣 .C)) (known-one : Triple 𝓤 (𝓣 .C #vetting·near·nearer-one) (NearerOne 𝓤 H A mem run)) (known-record : Triple 𝓤 (𝓣 .C #record·record-at) (RecordAt 𝓤 H A mem run)) (l₀ l₁ l₂ l₃ l₄ l₅ l₆ l₇ l₈ : ℕ) where
+  module _ (𝓣 : Tables 𝓤 H) (fm : FmC 𝓤 H (W .laws) (𝓣 .C)) (known-one : Triple 𝓤 (𝓣 .C #vetting·near·as-near-one) (AsNearOne 𝓤 H A mem run)) (known-record : Triple 𝓤 (𝓣 .C #record·record-at) (RecordAt 𝓤 H A mem run)) (l₀ l₁ l₂ l₃ l₄ l₅ l₆ l₇ l₈ : ℕ) where
     abbrev C : Calls 𝓤 H
     C = 𝓣 .C
 
@@ -193,8 +193,8 @@ module _ {M : Type 1} (𝓤 : URA M) (H : Heap 𝓤) (A : Atoms 𝓤) (W : Given
         leaves-said ! fm record-at.ended (record-at.clauses 𝓤 H A mem run) known-record (at-record (i .0)) (λ d ws. d ≡ getD cs (i .0) none) (λ d ws. id⊢ 𝓤 _) (arg ! 16 refl (arg ! 8 refl (no-more !))) (λ w d ws e is.
         land ! (from ! (stop !)) (init ! 7 refl (LL.lawful T.the-type T′.the-laws 𝓤 H A W .typed d _ is .0)) $
         -- it is compared with c
-        use1 W (raw (NearerOne 𝓤 H A mem run .pre (to-one d w))) (goes-one (i .0) d w (within less) e) $
-        leaves-said ! fm nearer-one.ended (nearer-one.clauses 𝓤 H A mem run) known-one (to-one d w) (λ r ws. r ≡ one (nearerAs c d)) (λ r ws. id⊢ 𝓤 _) (arg ! 7 refl (arg ! 13 refl (no-more !))) (λ u r ws g is′.
+        use1 W (raw (AsNearOne 𝓤 H A mem run .pre (to-one d w))) (goes-one (i .0) d w (within less) e) $
+        leaves-said ! fm as-near-one.ended (as-near-one.clauses 𝓤 H A mem run) known-one (to-one d w) (λ r ws. r ≡ one (asNearToIt c d)) (λ r ws. id⊢ 𝓤 _) (arg ! 7 refl (arg ! 13 refl (no-more !))) (λ u r ws g is′.
         land ! (from ! (stop !)) (init ! 3 refl (uint-lawful 𝓤 H A W w64 .typed r _ is′ .0)) $
         rewrite ! 3 (λ (v : Val). ‵ (fat fullShare word l₈ 0 v)) (ap only (is′ .0)) refl $
         assigns ! (bin ! (load ! (from ! (stop !)) (look ! 11 refl)) (load ! (from ! (stop !)) (look ! 3 refl)) (record { fits = few (next less d r e g) })) (from ! (stop !)) (store ! 11 refl (tt, record { fits = few (next less d r e g) })) $
@@ -212,22 +212,22 @@ module _ {M : Type 1} (𝓤 : URA M) (H : Heap 𝓤) (A : Atoms 𝓤) (W : Given
         fits-next : Holds (ltb (i .0) m) → i .0 + 1 < 2 ^ 64
         fits-next less = lt-of-le-of-lt (add-one-le (within less)) gm
 
-        next : Holds (ltb (i .0) m) → (d : Candidate) (r : ℕ) → d ≡ getD cs (i .0) none → r ≡ one (nearerAs c d) → Upto
+        next : Holds (ltb (i .0) m) → (d : Candidate) (r : ℕ) → d ≡ getD cs (i .0) none → r ≡ one (asNearToIt c d) → Upto
         next less d r e g = (
           i .0 + 1,
           add-one-le (within less),
           i .2 + r,
-          counted-next cs c (i .0) (i .2) r (i .3) (lt-of-lt-of-le (within less) (pre .0 .room)) (g ∙ ap (λ (z : Candidate). one (nearerAs c z)) e),
+          counted-next cs c (i .0) (i .2) r (i .3) (lt-of-lt-of-le (within less) (pre .0 .room)) (g ∙ ap (λ (z : Candidate). one (asNearToIt c z)) e),
         )
 
-        at-end : Holds (not (ltb (i .0) m)) → i .2 ≡ nearerAmong (take m cs) c
+        at-end : Holds (not (ltb (i .0) m)) → i .2 ≡ asNearAmong (take m cs) c
         at-end over =
             let h : m ≤ i .0 = nltb→le (i .0) m over in
             let g : i .0 ≤ m = i .1 in
             let e : i .0 ≡ m = omega arith in
-            i .3 .count ∙ ap (λ (j : ℕ). nearerAmong (take j cs) c) e
+            i .3 .count ∙ ap (λ (j : ℕ). asNearAmong (take j cs) c) e
 
-  walk : (𝓣 : Tables 𝓤 H) → FmC 𝓤 H (W .laws) (𝓣 .C) → Triple 𝓤 (𝓣 .C #vetting·near·nearer-one) (NearerOne 𝓤 H A mem run) → Triple 𝓤 (𝓣 .C #record·record-at) (RecordAt 𝓤 H A mem run)
+  walk : (𝓣 : Tables 𝓤 H) → FmC 𝓤 H (W .laws) (𝓣 .C) → Triple 𝓤 (𝓣 .C #vetting·near·as-near-one) (AsNearOne 𝓤 H A mem run) → Triple 𝓤 (𝓣 .C #record·record-at) (RecordAt 𝓤 H A mem run)
       → ent 𝓤 (onEntry 𝓤 H A f.signature (κ, tt) (q, tt) a at) (WpFn 𝓤 H (𝓣 .C) (𝓣 .Λ) code.function (s ∷ vint w64 m ∷ w₀ ∷ []) Post)
   walk 𝓣 fm known-one known-record =
       qed W (raw (onEntry 𝓤 H A f.signature (κ, tt) (q, tt) a at) ∷ []) ∵ apart ! f.signature (κ, tt) (q, tt) a at $ keep ! (0 ∷ 1 ∷ []) $
@@ -238,13 +238,13 @@ module _ {M : Type 1} (𝓤 : URA M) (H : Heap 𝓤) (A : Atoms 𝓤) (W : Given
       assigns ! (of-opd ! (lit ! tt)) (from ! (stop !)) (init ! 6 refl (tt, record { fits = lit< tt })) $
       first ! $ blocks ! $ loops ! 𝓣 Nearer (NearerTo-wf (λ (i : Upto). i .0) m) (At 𝓣 fm known-one known-record l₀ l₁ l₂ l₃ l₄ l₅ l₆ l₇ l₈) (turns 𝓣 fm known-one known-record l₀ l₁ l₂ l₃ l₄ l₅ l₆ l₇ l₈) (0, zero-le, 0, counted-none cs c))))))))))
 
-pub nearer-in-spec : {M : Type 1} → stated.statement M
+pub as-near-in-spec : {M : Type 1} → stated.statement M
 unfolding code.routine tablesOf
-nearer-in-spec 𝓤 H 𝓜 𝓖 𝓡 =
+as-near-in-spec 𝓤 H 𝓜 𝓖 𝓡 =
     let W = givenOf 𝓤 H 𝓜 𝓖 in
-    let one-met = cited 𝓤 H (NearerOne 𝓤 H (𝓖 .A) (𝓜 .mem) (𝓡 .run)) 𝓜 𝓡 code.env nearer-one-def.name nearer-one-def.routine code.calls-vetting·near·nearer-one (nearer-one-thm.met 𝓤 H 𝓜 𝓖 𝓡) in
+    let one-met = cited 𝓤 H (AsNearOne 𝓤 H (𝓖 .A) (𝓜 .mem) (𝓡 .run)) 𝓜 𝓡 code.env as-near-one-def.name as-near-one-def.routine code.calls-vetting·near·as-near-one (as-near-one-thm.met 𝓤 H 𝓜 𝓖 𝓡) in
     let record-met = cited 𝓤 H (RecordAt 𝓤 H (𝓖 .A) (𝓜 .mem) (𝓡 .run)) 𝓜 𝓡 code.env record-at-def.name record-at-def.routine code.calls-record·record-at (record-at-thm.met 𝓤 H 𝓜 𝓖 𝓡) in
-    closes 𝓤 H 𝓜 𝓖 𝓡 code.env #vetting·near·nearer-in code.function (code.unfolded 𝓤 H 𝓜 𝓡) f.ended stayed (goes-none-slice 𝓤 H (𝓖 .A) W 1 (0 ∷ []) tt (plain (λ _. R)) yes, (goes-none 𝓤 H (𝓖 .A) W 1 (λ _. usize) yes (λ κs x f. refl), (goes-none 𝓤 H (𝓖 .A) W 1 (λ _. R) yes (λ κs x f. refl), tt)))
+    closes 𝓤 H 𝓜 𝓖 𝓡 code.env #vetting·near·as-near-in code.function (code.unfolded 𝓤 H 𝓜 𝓡) f.ended stayed (goes-none-slice 𝓤 H (𝓖 .A) W 1 (0 ∷ []) tt (plain (λ _. R)) yes, (goes-none 𝓤 H (𝓖 .A) W 1 (λ _. usize) yes (λ κs x f. refl), (goes-none 𝓤 H (𝓖 .A) W 1 (λ _. R) yes (λ κs x f. refl), tt)))
     (f.clauses 𝓤 H (𝓖 .A) (𝓜 .mem) (𝓡 .run)) (λ κs. (slice-vals, (uint-vals w64, (vals, tt))))
     (λ κs. (shr-slice-tells (named 0) (κs .0) R, (uint-tells w64, (LL.tells T.the-type T′.the-laws, tt))))
     (λ fm x g are. needs 𝓤 _ _ (λ pre. walk 𝓤 H (𝓖 .A) W (𝓜 .mem) (𝓡 .run) (x .0 .0) (x .1 .0) (x .3 .0) (x .3 .1 .0) (x .3 .1 .1 .0) (are .0 .0 .1) (are .1 .0 .1) (are .1 .1 .0) pre (tablesOf 𝓤 H 𝓜 (tables 𝓤 H 𝓜 𝓡 code.env)) fm one-met record-met))

@@ -1,13 +1,13 @@
--- `grid::rect::RectEnds::all_nearer` meets its contract: the two leads fit together, and the test is the definition's. Assumes nothing.
+-- `grid::rect::RectEnds::all_as_near` meets its contract: the two leads fit together, and the test is the definition's. Assumes nothing.
 use Prim.Native.Nat.{_≤_}
 use mathlib.Core.Path.{_≡_, refl, _∙_, ap}
 use borrow.Author.Needs.{needs}
 use lib.IntN.{natAbs}
 use Rattle.axis.specs.Axis.{leadOf}
-use Rattle.grid.specs.Nearer.{led, allNearer}
+use Rattle.grid.specs.AsNear.{led, allAsNear}
 use Rattle.axis.proofs.Machine.{lead-most, leads-fit, leads-back}
-use Rattle.grid.proofs.rect.RectEnds.all_nearer.Statement.{statement}
-use Rattle.grid.proofs.rect.RectEnds.all_nearer.Tie as tie
+use Rattle.grid.proofs.rect.RectEnds.all_as_near.Statement.{statement}
+use Rattle.grid.proofs.rect.RectEnds.all_as_near.Tie as tie
 
 lead-requires : tie.Need-lead-requires
 lead-requires c κs = search needs
@@ -32,7 +32,7 @@ is-led-requires : tie.Need-is-led-requires
 is-led-requires c κs = search needs
 
 returns : tie.Need-returns
-unfolding allNearer
+unfolding allAsNear
 returns c =
     let s = c .before in
     let a = s .before .before .args in
@@ -41,5 +41,5 @@ returns c =
     c .is-led .ensures
     ∙ ap (led (a .square)) (leads-back (s .before .lead .result) (s .lead2 .result) (x-most s) (y-most s) ∙ rw (← x, ← y) refl)
 
-pub all-nearer-spec : {M : Type 1} → statement M
-all-nearer-spec = tie.close (tie.spec lead-requires lead-requires-2 add-is-led is-led-requires returns)
+pub all-as-near-spec : {M : Type 1} → statement M
+all-as-near-spec = tie.close (tie.spec lead-requires lead-requires-2 add-is-led is-led-requires returns)
