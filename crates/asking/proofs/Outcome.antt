@@ -18,7 +18,7 @@ use Rattle.grid.proofs.Rects.{place-ext}
 use Rattle.grid.proofs.Site.{SiteOnGrid}
 use Rattle.order.specs.Lists.{filter, every, count, All}
 use Rattle.order.specs.Order.{upFrom}
-use Rattle.order.proofs.Lists.{all-at, map-at, all-then}
+use Rattle.order.proofs.Lists.{all-at, map-at, all-then, count-map, count-same}
 use Rattle.order.proofs.Order.{pick-all, up-all}
 use Rattle.table.specs.declared.node.Entry.{Entry}
 use Rattle.figures.specs.Figures.{MOST}
@@ -39,10 +39,10 @@ use Rattle.filter.specs.Rows.{Rows, laidIn, Room, Noted}
 use Rattle.vetting.specs.Test.{passes}
 use Rattle.filter.proofs.Answers.{found-points, found-few, found-crowded}
 use Rattle.filter.proofs.Rising.{filter-map, filter-same}
-use Rattle.filter.proofs.Rows.{count-map, laid-length, map-both, row-at, rows-room}
+use Rattle.filter.proofs.Rows.{laid-length, map-both, row-at, rows-room}
 use Rattle.filter.proofs.Turns.{room-less}
 use Rattle.vetting.proofs.Listing.{rising-length}
-use Rattle.vetting.proofs.Testing.{count-same, passes-answers}
+use Rattle.vetting.proofs.Testing.{passes-answers}
 use Rattle.record.specs.declared.Candidate.{Candidate}
 use Rattle.record.specs.Blank.{none}
 use Rattle.asking.specs.Records.{candidateIn, candidatesIn}

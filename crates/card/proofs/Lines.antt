@@ -57,14 +57,14 @@ module _ (all : List Station) (p : Station) where
         ∙ ap (λ (n : ℕ). min k n) (perm-length order-perm ∙ length-filter (isOther p) all)
 
     -- the front of all others, and the rest of them
-    split : Perm (take k (inCardOrder all p) ++ drop k (inCardOrder all p)) (filter (isOther p) all)
+    pub split : Perm (take k (inCardOrder all p) ++ drop k (inCardOrder all p)) (filter (isOther p) all)
     split = rw (take-append-drop k (inCardOrder all p)) order-perm
 
     on-card : (c : Station) → Mem c (cardOf all p k) → Mem c (filter (isOther p) all)
     unfolding cardOf
     on-card c m = perm-mem split (Memᴰ·append-left (drop k (inCardOrder all p)) m)
 
-    named : (c : Station) → Mem c (cardOf all p k) → Mem (c .number) (namesOf all p k)
+    pub named : (c : Station) → Mem c (cardOf all p k) → Mem (c .number) (namesOf all p k)
     unfolding namesOf
     named c m = Memᴰ·map number m
 
@@ -76,21 +76,24 @@ module _ (all : List Station) (p : Station) where
         let same = eq-eqb (c .0 .number) (p .number) (c .2) in
         true≢false (sym same ∙ not-true _ other)
 
+    -- no number stands twice, before the cut and behind it
+    pub cut-once : NoDup (map number all) → NoDup (map number (take k (inCardOrder all p)) ++ map number (drop k (inCardOrder all p)))
+    cut-once d =
+        rw (← map-append number (take k (inCardOrder all p)) (drop k (inCardOrder all p)))
+        (perm-nodup (psym (perm-map number split)) (nodup-filter number (isOther p) all d))
+
     none-twice : NoDup (map number all) → NoDup (namesOf all p k)
     unfolding namesOf cardOf
-    none-twice d =
-        nodup-left (map number (take k (inCardOrder all p))) (map number (drop k (inCardOrder all p)))
-        (rw (← map-append number (take k (inCardOrder all p)) (drop k (inCardOrder all p)))
-        (perm-nodup (psym (perm-map number split)) (nodup-filter number (isOther p) all d)))
+    none-twice d = nodup-left (map number (take k (inCardOrder all p))) (map number (drop k (inCardOrder all p))) (cut-once d)
 
-    behind : (c d : Station) → Mem c (drop k (inCardOrder all p)) → Mem d (cardOf all p k) → InLine away number d c
+    pub behind : (c d : Station) → Mem c (drop k (inCardOrder all p)) → Mem d (cardOf all p k) → InLine away number d c
     unfolding cardOf
     behind c d mc md =
         let xs = inCardOrder all p in
         let cut = mem-all (λ x. All (InLine away number x) (drop k xs)) (take k xs) (pairwise-cut (InLine away number) k xs in-line) md in
         mem-all (InLine away number d) (drop k xs) cut mc
 
-    unnamed : (c : Station) → Mem c all → isOther p c ≡ true → (Mem (c .number) (namesOf all p k) → ⊥) → Mem c (drop k (inCardOrder all p))
+    pub unnamed : (c : Station) → Mem c all → isOther p c ≡ true → (Mem (c .number) (namesOf all p k) → ⊥) → Mem c (drop k (inCardOrder all p))
     unfolding cardOf
     unnamed c m o not-there =
         ⊎-elim (λ front. absurd (not-there (named c front))) (λ rest. rest)

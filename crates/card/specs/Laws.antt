@@ -3,10 +3,11 @@ use Prim.Native.Nat.{ℕ, _<_, min}
 use mathlib.Core.Path.{_≡_}
 use mathlib.Core.Logic.{_⊎_}
 use mathlib.Core.Bool.{true}
-use mathlib.Core.List.{List, map}
+use mathlib.Core.List.{List, _∷_, map}
 use lib.ListN.{length}
 use Rattle.grid.specs.Site.{distance²}
-use Rattle.order.specs.Lists.{count, Mem, NoDup}
+use Rattle.order.specs.Lists.{count, Mem, NoDup, All}
+use Rattle.order.specs.Order.{Perm}
 use Rattle.table.specs.Stations.{Station}
 use Rattle.filter.specs.Meaning.{isOther}
 use Rattle.card.specs.Card.{cardOf, namesOf}
@@ -31,3 +32,9 @@ pub record CardLaws (all : List Station) (p : Station) (k : ℕ) : Type 0 where
 
 abbrev pub AnyCard : Type 0
 AnyCard = (all : List Station) (p : Station) (k : ℕ) → CardLaws all p k
+
+-- 02 §2: a newcomer joins those enrolled, with a number above every one of theirs; no number stands twice
+pub record Newcomer (all more : List Station) (new : Station) : Type 0 where
+  pub joined : Perm more (new ∷ all)
+  pub once : NoDup (map (λ c. c .number) more)
+  pub above : All (λ c. c .number < new .number) all

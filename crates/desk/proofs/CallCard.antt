@@ -11,13 +11,12 @@ use lib.ListN.{length}
 use borrow.Author.Tests.{eqb-true, eq-eqb, ltb-true, ltb-false, lt-ltb, le-ltb, lt-leb, le-leb}
 use Rattle.words.specs.Word.{IsWord, natOf}
 use Rattle.order.specs.Lists.{filter, has, Mem, NoDup}
-use Rattle.order.proofs.Lists.{by-bool, filter-mem, mem-filter}
+use Rattle.order.proofs.Lists.{by-bool, filter-mem, mem-filter, has-mem, nodup-one}
 use Rattle.table.specs.declared.given.Given.{Given}
 use Rattle.table.specs.declared.given.Given.the-variants.{Done, ShortList}
 use Rattle.table.specs.Words.{Words}
 use Rattle.table.specs.Stations.{Station, stations}
 use Rattle.rules.specs.Rules.{Passing}
-use Rattle.leaving.proofs.WithdrawRoot.{has-mem}
 use Rattle.filter.specs.Query.{laidOver}
 use Rattle.card.specs.Card.{namesOf, namesOfFirst, namesFor}
 use Rattle.naming.specs.Named.{Named}
@@ -82,16 +81,6 @@ card-once ws n k old a b =
 pub number-station : (n : ℕ) (ps : List Station) → has n (map (λ p. p .number) ps) ≡ true → (p : Station) × Mem p ps × (p .number ≡ n)
 number-station n ps h = Memᴰ·of-map (λ p. p .number) ps (has-mem n (map (λ p. p .number) ps) h)
 
--- in a list in which no number stands twice
-one-station : (f : Station → ℕ) (xs : List Station) → NoDup (map f xs) → {a b : Station} → Mem a xs → Mem b xs → f a ≡ f b → a ≡ b
-one-station f [] d m n e = absurd (List·Memᴰ·not-nil m)
-one-station f (x ∷ xs) d {a} {b} m n e =
-    let ih : Mem a xs → Mem b xs → a ≡ b = λ u v. one-station f xs (d .1) u v e in
-    ⊎-elim
-    (λ s. ⊎-elim (λ t. s ∙ sym t) (λ v. absurd (d .0 (Memᴰ·cast (ap f (sym s) ∙ e) (Memᴰ·map f v)))) (List·Memᴰ·cases-cons n))
-    (λ u. ⊎-elim (λ t. absurd (d .0 (Memᴰ·cast (ap f (sym t) ∙ sym e) (Memᴰ·map f u)))) (λ v. ih u v) (List·Memᴰ·cases-cons n))
-    (List·Memᴰ·cases-cons m)
-
 -- the first with the number is the one
 module _ (all : List Station) (once : NoDup (map (λ p. p .number) all)) (n k : ℕ) (p : Station) (m : Mem p all) (e : p .number ≡ n) where
   first-is : (ps : List Station) → Mem p ps → ((q : Station) → Mem q ps → q ≡ p) → namesOfFirst all k ps ≡ namesOf all p k
@@ -103,4 +92,4 @@ module _ (all : List Station) (once : NoDup (map (λ p. p .number) all)) (n k : 
   names-of-it =
       let P : Station → Bool = λ q. eqb (q .number) n in
       first-is (filter P all) (mem-filter P all m (eq-eqb (p .number) n e))
-      (λ q mq. let f = filter-mem P all mq in one-station (λ p. p .number) all once (f .0) m (eqb-true (q .number) n (f .1) ∙ sym e))
+      (λ q mq. let f = filter-mem P all mq in nodup-one (λ p. p .number) all once (f .0) m (eqb-true (q .number) n (f .1) ∙ sym e))

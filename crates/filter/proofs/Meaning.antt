@@ -10,19 +10,12 @@ use borrow.Author.Tests.{lt-ltb, eq-eqb}
 use Rattle.grid.specs.Site.{Site}
 use Rattle.order.specs.Lists.{one, count, filter, Mem, All}
 use Rattle.order.proofs.Perm.{psym, perm-mem}
-use Rattle.order.proofs.Lists.{one-most, count-most, filter-mem, mem-filter, all-mem}
+use Rattle.order.proofs.Lists.{one-most, count-most, filter-mem, mem-filter, all-mem, count-less}
 use Rattle.order.proofs.Order.{sort-perm}
 use Rattle.table.specs.Stations.{Station}
 use Rattle.filter.specs.Meaning.{asNearOther, answersTo, rising, answer}
 
 -- ---- lists
-
--- one that does not pass is not counted
-count-less : {A : Type 0} (P : A → Bool) {a : A} (xs : List A) → Mem a xs → P a ≡ false → count P xs < length xs
-count-less P [] m e = absurd (List·Memᴰ·not-nil m)
-count-less P (x ∷ xs) m e =
-    ⊎-elim (λ h. omega (arith, ap one (ap P (sym h) ∙ e), count-most P xs))
-    (λ h. omega (arith, one-most (P x), count-less P xs h e)) (List·Memᴰ·cases-cons m)
 
 pub count-none : {A : Type 0} (P : A → Bool) (xs : List A) → All (λ x. P x ≡ false) xs → count P xs ≡ 0
 count-none P [] h = refl

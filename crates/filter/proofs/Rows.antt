@@ -25,10 +25,6 @@ use Rattle.table.proofs.Nodes.{entry-ext}
 use Rattle.rules.proofs.Reading.{Point, point, point-spot}
 use Rattle.order.specs.Order.{upFrom}
 
-pub count-map : {A B : Type 0} (P : B → Bool) (f : A → B) (xs : List A) → count P (map f xs) ≡ count (λ x. P (f x)) xs
-count-map P f [] = refl
-count-map P f (x ∷ xs) = omega (arith, count-map P f xs)
-
 pub map-same : {A : Type 0} (xs : List A) → map (λ x. x) xs ≡ xs
 map-same [] = refl
 map-same (x ∷ xs) = ap (λ l. x ∷ l) (map-same xs)

@@ -14,7 +14,7 @@ use Rattle.grid.specs.Place.{PlaceOnGrid, dist²}
 use Rattle.grid.specs.AsNear.{asNearTo, cornersAsNear}
 use Rattle.order.specs.Lists.{count, Mem}
 use Rattle.order.specs.Order.{upFrom}
-use Rattle.order.proofs.Lists.{mem-all, map-at}
+use Rattle.order.proofs.Lists.{mem-all, map-at, count-map}
 use Rattle.order.proofs.Order.{up-length, up-at}
 use Rattle.table.specs.declared.node.Entry.{Entry}
 use Rattle.table.specs.Page.{blankEntry}
@@ -23,7 +23,7 @@ use Rattle.rules.proofs.Reading.{point}
 use Rattle.filter.specs.declared.seen.Seen.{Seen}
 use Rattle.filter.specs.Walk.{Found, spotIn, pointHidden, boxHidden, withCandidate, visited, entered}
 use Rattle.filter.specs.Rows.{Rows, rows, placeIn, entryIn, listed, laidIn, foundIn, Room, Kept, Noted, Ready}
-use Rattle.filter.proofs.Rows.{count-map, row-add, row-at, rows-ext}
+use Rattle.filter.proofs.Rows.{row-add, row-at, rows-ext}
 
 up-mem : (a n i : ℕ) → a ≤ i → i < a + n → Mem i (upFrom a n)
 up-mem a zero i l u = absurd (omega arith)

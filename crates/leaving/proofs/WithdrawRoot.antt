@@ -11,7 +11,7 @@ use lib.ListN.{length, length-set}
 use borrow.Author.Tests.{eqb-true, eq-eqb, ne-eqb}
 use Rattle.order.specs.Lists.{has, Mem}
 use Rattle.order.proofs.Perm.{perm-map, perm-mem}
-use Rattle.order.proofs.Lists.{by-bool}
+use Rattle.order.proofs.Lists.{by-bool, has-mem}
 use Rattle.table.specs.declared.node.Entry.{Entry}
 use Rattle.figures.specs.Figures.{MOST, SLOTS, LENGTH}
 use Rattle.table.specs.Words.{Words, rootOf, pointsOf}
@@ -29,11 +29,6 @@ use Rattle.leaving.specs.Withdraw.{holds, removed, emptied, givenWay, lo
 use Rattle.leaving.proofs.WithdrawCut.{first-split}
 use Rattle.change.proofs.Planting.{planted-inside}
 use Rattle.leaving.proofs.Withdrawn.{found, root-lowerable}
-
-pub has-mem : (n : ℕ) (ns : List ℕ) → has n ns ≡ true → Mem n ns
-has-mem n ns h =
-    let p = first-split (eqb n) ns h in
-    subst (Mem n) (sym (p .3)) (Memᴰ·append-right (p .0) (List·Memᴰ·head (eqb-true n (p .1) (p .5))))
 
 -- ---- the tree, and the entry with the number
 

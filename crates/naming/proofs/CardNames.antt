@@ -20,7 +20,7 @@ use Rattle.grid.proofs.Site.{dist-sites}
 use Rattle.order.specs.Lists.{one, count, filter, join, Mem, All, Rises}
 use Rattle.order.specs.Order.{sortBy, least, ptrans, NONE}
 use Rattle.order.proofs.Perm.{psym, perm-map}
-use Rattle.order.proofs.Lists.{by-bool, map-take, count-most, count-append, perm-count, filter-mem, mem-all, all-mem, all-map, all-perm, all-then, all-take, all-replicate}
+use Rattle.order.proofs.Lists.{by-bool, map-take, count-most, count-append, perm-count, filter-mem, mem-all, all-mem, all-map, all-perm, all-then, all-take, all-replicate, count-map, count-same, count-filter}
 use Rattle.order.proofs.Order.{sort-perm}
 use Rattle.order.proofs.Pairwise.{pairwise-take, pairwise-then, pairwise-map, InLine, sort-rises}
 use Rattle.order.proofs.Least.{upTo, low, low-none, low-all, take-low, rises-only, least-rises, least-low, least-same, least-is}
@@ -37,11 +37,11 @@ use Rattle.filter.specs.Meaning.{isOther}
 use Rattle.filter.specs.Walk.{spotIn}
 use Rattle.filter.specs.Query.{laidOver}
 use Rattle.filter.proofs.Rising.{filter-map}
-use Rattle.filter.proofs.Rows.{laid-set, count-map}
+use Rattle.filter.proofs.Rows.{laid-set}
 use Rattle.filter.proofs.Answers.{point-site, stations-empty}
 use Rattle.vetting.specs.Test.{below}
 use Rattle.vetting.proofs.Below.{root-count}
-use Rattle.vetting.proofs.Testing.{all-points, count-same}
+use Rattle.vetting.proofs.Testing.{all-points}
 use Rattle.card.specs.Card.{inCardOrder, cardOf, namesOf, namesOfFirst, namesFor}
 use Rattle.card.proofs.Lines.{order-perm, in-line}
 use Rattle.naming.specs.declared.find.Whereabouts.the-variants.{At, Nowhere}
@@ -197,11 +197,7 @@ found-at number p (x ∷ xs) e =
 
 -- how many of the marks of some pass a test
 count-marked : {A B : Type 0} (R : B → Bool) (f : A → B) (Q : A → Bool) (xs : List A) → count R (map f (filter Q xs)) ≡ count (λ x. Q x && R (f x)) xs
-count-marked R f Q [] = refl
-count-marked R f Q (x ∷ xs) =
-    let ih = count-marked R f Q xs in
-    by-bool (λ b. count R (map f (cond b (x ∷ filter Q xs) (filter Q xs))) ≡ one (b && R (f x)) + count (λ x. Q x && R (f x)) xs) (Q x)
-    (λ e. omega (arith, ih)) (λ e. omega (arith, ih))
+count-marked R f Q xs = count-map R f (filter Q xs) ∙ count-filter (λ x. R (f x)) Q xs
 
 -- on a table that passes the check, the station with the number stands at p
 module _ (ws : Words) (pass : Passing ws) (number : ℕ) (p : Place) (there : whereOf ws number ≡ At p) where

@@ -5,7 +5,7 @@ use native.Mathlib.Nat.{le-of-suc-le-suc}
 use native.Mathlib.Numerals.{add-one}
 use mathlib.Core.Path.{_≡_, refl, sym, ap, subst, _∙_}
 use mathlib.Core.Logic.{⊎-elim}
-use mathlib.Core.Bool.{Bool, true, false, cond}
+use mathlib.Core.Bool.{Bool, true, false, cond, _&&_, _||_, false≢true}
 use mathlib.Core.List.{
   List,
   [],
@@ -18,12 +18,14 @@ use mathlib.Core.List.{
   List·Memᴰ·not-nil,
   List·Memᴰ·cases-cons,
   List·Memᴰ·append-cases,
+  Memᴰ·cast,
+  Memᴰ·map,
 }
-use lib.Dec.{leb}
+use lib.Dec.{eqb, leb}
 use lib.ListN.{length, getD, take, drop, set, replicate}
 use lib.Seq.{take-suc}
-use borrow.Author.Tests.{leb-true, leb-false}
-use Rattle.order.specs.Lists.{one, count, filter, join, Mem, All, NoDup, Same}
+use borrow.Author.Tests.{eqb-true, leb-true, leb-false}
+use Rattle.order.specs.Lists.{one, count, filter, has, join, Mem, All, NoDup, Same}
 use Rattle.order.specs.Order.{Perm, pnil, pskip, pswap, ptrans}
 use Rattle.order.proofs.Perm.{prefl, psym, perm-mem, perm-before, perm-behind, perm-turn}
 
@@ -69,6 +71,33 @@ count-most P (x ∷ xs) = omega (arith, one-most (P x), count-most P xs)
 pub count-append : {A : Type 0} (P : A → Bool) (xs ys : List A) → count P (xs ++ ys) ≡ count P xs + count P ys
 count-append P [] ys = omega arith
 count-append P (x ∷ xs) ys = omega (arith, count-append P xs ys)
+
+pub count-same : {A : Type 0} (P Q : A → Bool) (xs : List A) → All (λ x. P x ≡ Q x) xs → count P xs ≡ count Q xs
+count-same P Q [] h = refl
+count-same P Q (x ∷ xs) h = omega (arith, ap one (h .0), count-same P Q xs (h .1))
+
+pub count-map : {A B : Type 0} (P : B → Bool) (f : A → B) (xs : List A) → count P (map f xs) ≡ count (λ x. P (f x)) xs
+count-map P f [] = refl
+count-map P f (x ∷ xs) = omega (arith, count-map P f xs)
+
+-- of those that pass another test
+pub count-filter : {A : Type 0} (P Q : A → Bool) (xs : List A) → count P (filter Q xs) ≡ count (λ x. Q x && P x) xs
+count-filter P Q [] = refl
+count-filter P Q (x ∷ xs) =
+    let ih = count-filter P Q xs in
+    by-bool (λ b. count P (cond b (x ∷ filter Q xs) (filter Q xs)) ≡ one (b && P x) + count (λ x. Q x && P x) xs) (Q x) (λ e. omega (arith, ih)) (λ e. omega (arith, ih))
+
+-- one that does not pass is not counted
+pub count-less : {A : Type 0} (P : A → Bool) {a : A} (xs : List A) → Mem a xs → P a ≡ false → count P xs < length xs
+count-less P [] m e = absurd (List·Memᴰ·not-nil m)
+count-less P (x ∷ xs) m e =
+    ⊎-elim (λ h. omega (arith, ap one (ap P (sym h) ∙ e), count-most P xs))
+    (λ h. omega (arith, one-most (P x), count-less P xs h e)) (List·Memᴰ·cases-cons m)
+
+-- all that pass are counted
+pub count-all : {A : Type 0} (P : A → Bool) (xs : List A) → All (λ x. P x ≡ true) xs → count P xs ≡ length xs
+count-all P [] h = refl
+count-all P (x ∷ xs) h = omega (arith, ap one (h .0), count-all P xs (h .1))
 
 -- of the first so many, one more
 pub count-more : {A : Type 0} (P : A → Bool) (xs : List A) (i : ℕ) (d : A) → i < length xs → count P (take (i + 1) xs) ≡ count P (take i xs) + one (P (getD xs i d))
@@ -153,6 +182,14 @@ module _ {A : Type 0} (eq : A → A → Bool) (eq-true : (a b : A) → eq a b �
   -- the same first element can go
   pub perm-cancel : (x : A) (xs ys : List A) → Perm (x ∷ xs) (x ∷ ys) → Perm xs ys
   perm-cancel x xs ys p = same-perm xs ys (λ P. omega (arith, perm-count p P))
+
+-- a number that stands in a list
+pub has-mem : (n : ℕ) (ns : List ℕ) → has n ns ≡ true → Mem n ns
+has-mem n [] h = absurd (false≢true h)
+has-mem n (x ∷ ns) h =
+    let ih : has n ns ≡ true → Mem n ns = has-mem n ns in
+    by-bool (λ b. eqb n x ≡ b → (b || has n ns) ≡ true → Mem n (x ∷ ns)) (eqb n x)
+    (λ t e g. List·Memᴰ·head (eqb-true n x e)) (λ t e g. List·Memᴰ·tail (ih g)) refl h
 
 -- ---- joined lists
 
@@ -256,3 +293,13 @@ pub nodup-append : {A : Type 0} (xs ys : List A) → NoDup xs → NoDup ys → (
 nodup-append [] ys d e h = e
 nodup-append (x ∷ xs) ys d e h =
     ((λ m. ⊎-elim (λ n. d .0 n) (λ n. h x (List·Memᴰ·head refl) n) (List·Memᴰ·append-cases xs m)), nodup-append xs ys (d .1) e (λ a m n. h a (List·Memᴰ·tail m) n))
+
+-- two members are one where no key stands twice and theirs is the same
+pub nodup-one : {A B : Type 0} (f : A → B) (xs : List A) → NoDup (map f xs) → {a b : A} → Mem a xs → Mem b xs → f a ≡ f b → a ≡ b
+nodup-one f [] d m n e = absurd (List·Memᴰ·not-nil m)
+nodup-one f (x ∷ xs) d {a} {b} m n e =
+    let ih : Mem a xs → Mem b xs → a ≡ b = λ u v. nodup-one f xs (d .1) u v e in
+    ⊎-elim
+    (λ s. ⊎-elim (λ t. s ∙ sym t) (λ v. absurd (d .0 (Memᴰ·cast (ap f (sym s) ∙ e) (Memᴰ·map f v)))) (List·Memᴰ·cases-cons n))
+    (λ u. ⊎-elim (λ t. absurd (d .0 (Memᴰ·cast (ap f (sym t) ∙ sym e) (Memᴰ·map f u)))) (λ v. ih u v) (List·Memᴰ·cases-cons n))
+    (List·Memᴰ·cases-cons m)

@@ -16,7 +16,7 @@ use Rattle.rules.proofs.Counted.{up-append}
 
 -- ---- a number in a list, as a test
 
-mem-has : {n : ℕ} (ns : List ℕ) → Mem n ns → has n ns ≡ true
+pub mem-has : {n : ℕ} (ns : List ℕ) → Mem n ns → has n ns ≡ true
 mem-has [] m = absurd (List·Memᴰ·not-nil m)
 mem-has {n} (x ∷ ns) (List·Memᴰ·head e) = rw (eq-eqb n x e)
 mem-has {n} (x ∷ ns) (List·Memᴰ·tail m) = or-second (eqb n x) (mem-has ns m)

@@ -15,7 +15,7 @@ use Rattle.grid.specs.Site.{Site, placeOf}
 use Rattle.grid.specs.AsNear.{asNearTo}
 use Rattle.grid.proofs.Site.{SiteOnGrid}
 use Rattle.order.specs.Lists.{one, count, join, All}
-use Rattle.order.proofs.Lists.{count-most}
+use Rattle.order.proofs.Lists.{count-most, count-map, count-same}
 use Rattle.order.proofs.Order.{up-all}
 use Rattle.table.specs.declared.node.Entry.{Entry}
 use Rattle.figures.specs.Figures.{SLOTS, LENGTH}
@@ -33,7 +33,6 @@ use Rattle.rules.proofs.Reading.{Point, point}
 use Rattle.filter.specs.Meaning.{asNearOther, answersTo}
 use Rattle.filter.specs.Walk.{spotIn}
 use Rattle.vetting.specs.Test.{otherAsNear, passes, below}
-use Rattle.filter.proofs.Rows.{count-map}
 use Rattle.filter.proofs.Answers.{as-near-site, stations-empty}
 use Rattle.vetting.proofs.Below.{root-count}
 
@@ -67,10 +66,6 @@ module _ (ws : Words) (number : ℕ) (p : Place) (far k : ℕ) where
       ∙ ap (λ (n : ℕ). ltb n k) (root-count ws long fits w e root level isRoot isLevel (otherAsNear number p far))
 
 -- ---- it is the test of the meaning
-
-pub count-same : {A : Type 0} (P Q : A → Bool) (xs : List A) → All (λ x. P x ≡ Q x) xs → count P xs ≡ count Q xs
-count-same P Q [] h = refl
-count-same P Q (x ∷ xs) h = omega (arith, ap one (h .0), count-same P Q xs (h .1))
 
 -- of two points
 other-same : (q : Site) → SiteOnGrid q → (c e : Entry) → Point c → Point e
