@@ -3,6 +3,7 @@ pub mod Passing
 pub mod Kept
 pub mod Finds
 pub mod Demands
+pub mod Newcomer
 pub mod CallAfter
 pub mod CallQuery
 pub mod CallList

@@ -1,5 +1,6 @@
 pub mod Calls
 pub mod Demands
+pub mod Newcomer
 pub mod Lent
 pub mod Carding
 pub mod Alone
