@@ -1,4 +1,4 @@
--- 01's starred cases hold: each is computed from the definitions that the promises cite. The nine enrolments are computed once,
+-- The starred cases hold: each is computed from the definitions that the promises cite. The nine enrolments are computed once,
 -- as one table; what is said of it is then computed from that. Assumes nothing.
 use Prim.Native.Nat.{ℕ, suc, _*_}
 use mathlib.Core.Path.{_≡_, refl, ap, _∙_}
@@ -27,7 +27,7 @@ use Rattle.filter.specs.Walk.{Found, nearestFirst, pointHidden, boxHidden}
 use Rattle.filter.specs.Query.{found, answersFound}
 use Rattle.refusals.specs.Refusals.{site}
 use Rattle.desk.specs.Calls.{pointEntry}
-use Rattle.stars.specs.Stars.{Stars, referred, enrolledUpTo, station, at}
+use Rattle.stars.specs.Stars.{Stars, threeEnrolled, referred, enrolledUpTo, station, at}
 
 -- the nine stations
 abbrev row : List Station
@@ -37,6 +37,10 @@ row = station 1 (pos 0) (pos 0) ∷ station 2 (pos 10) (pos 0) ∷ station 3 (po
 -- point n + 1, as a leaf has it
 abbrev pt : ℕ → Entry
 pt n = pointEntry (pos (suc n)) (site (pos (10 * n)) (pos 0))
+
+-- point n at (x, 0)
+abbrev threeAt : ℕ → ℕ → Entry
+threeAt n x = pointEntry (pos n) (site (pos x) (pos 0))
 
 -- the box of the points from a to b
 abbrev span : ℕ → ℕ → Rect
@@ -58,6 +62,18 @@ nineStations : stations nineTable ≡ row
 unfolding nineTable stations partAt pageWords freeWords pageAt pageOf entryOf entryWords entriesWords wordOf
 nineStations = refl
 
+-- the table that the three enrolments leave, and the walk from (8, 0) on it: 3 and 2 become candidates, and 2 hides 1
+threeTable : Words
+threeTable = pos 0 ∷ pos 3 ∷ pageWords (page 0 (threeAt 1 0 ∷ threeAt 2 4 ∷ threeAt 3 10 ∷ [])) ++ freeSlots 255
+
+threeStored : threeEnrolled ≡ threeTable
+unfolding threeTable emptyTable enrolled isEmpty isFree partAt placed putPage pageWords freeWords pageAt pageOf entryOf entryWords entriesWords wordOf lowestFree settled chosen takesBefore lined firstShare otherShare coverOf entryFor areaOf growthOf longerAxis
+threeStored = refl
+
+threeFound : found threeTable (site (pos 8) (pos 0)) 1 ≡ record { candidates = threeAt 3 10 ∷ threeAt 2 4 ∷ []; opened = 1 }
+unfolding threeTable found isEmpty isFree partAt pageWords freeWords pageAt pageOf entryOf entryWords entriesWords wordOf nearestFirst pointHidden leastSquare gap asNear asNearTo dist² sq apart
+threeFound = refl
+
 -- the walk from (−10, 0): slot 0 first, where point 1 becomes a candidate and hides the rest; then slot 1, which it hides too
 nineFound : found nineTable (site (negsuc 9) (pos 0)) 1 ≡ record { candidates = pt 0 ∷ []; opened = 2 }
 unfolding nineTable found isEmpty isFree partAt pageWords freeWords pageAt pageOf entryOf entryWords entriesWords wordOf nearestFirst pointHidden boxHidden leastSquare gap asNear asNearTo cornersAsNear dist² sq apart
@@ -77,7 +93,7 @@ answers-by : (ws : Words) (q : Site) (k : ℕ) (f : Found) (all : List Station) 
 unfolding answersFound
 answers-by ws q k f all e s = rw (e, s)
 
-nineAnswers : answersFound nineTable (site (negsuc 9) (pos 0)) 1 ≡ 1 ∷ []
+nineAnswers : answersFound nineTable (site (negsuc 9) (pos 0)) 1 ≡ []
 unfolding rising answersTo asNearOther asNear distance² squareApart wordOf
 nineAnswers = answers-by nineTable _ 1 _ row nineFound nineStations
 
@@ -87,6 +103,7 @@ stars = record {
   threeAt5k1 = refl;
   threeAt5k2 = refl;
   threeAt8k1 = refl;
+  threeAt8M = ap (λ ws. map (λ e. e .reference) (found ws (site (pos 8) (pos 0)) 1 .candidates)) threeStored ∙ ap (λ f. map (λ e. e .reference) (f .candidates)) threeFound;
   fourAt5k1 = refl;
   fourAt5k2 = refl;
   fourAt4k1 = refl;
@@ -103,5 +120,5 @@ stars = record {
       ∙ ap (λ f. boxHidden (at (negsuc 9) (pos 0)) 1 (f .candidates) (entryFor nineTable 1)) nineFound
       ∙ nineHidden;
   boxDiscarded = refl;
-  boxKept = refl;
+  boxDiscardedOnEqual = refl;
 }
