@@ -117,9 +117,9 @@ module _ (all more : List Station) (new p : Station) (h : Newcomer all more new)
         ))
 
     -- not named: whoever is named is as near or nearer
-    nearer-names : (Mem (new .number) (namesOf more p k) → ⊥) → (d : Station) → Mem d front → before d ≡ true
+    named-before : (Mem (new .number) (namesOf more p k) → ⊥) → (d : Station) → Mem d front → before d ≡ true
     unfolding cardOf
-    nearer-names out d m =
+    named-before out d m =
         let apart : (d .number ≡ new .number) → ⊥ = λ s. out (Memᴰ·cast (sym s) (named more p k d m)) in
         let no-more : away d ≤ away new = ⊎-elim (λ l. omega arith) (λ l. omega arith) (behind more p k new d (unnamed more p k new in-more new-other out) m) in
         rw (ne-eqb (d .number) (new .number) apart) (no-further (away d) (away new) no-more)
@@ -132,7 +132,7 @@ module _ (all more : List Station) (new p : Station) (h : Newcomer all more new)
           same-count,
           two-parts,
           left,
-          count-all before front (all-mem (λ d. before d ≡ true) front (nearer-names out)),
+          count-all before front (all-mem (λ d. before d ≡ true) front (named-before out)),
           length-take k xs,
           ap length (take-append-drop k xs),
           length-append front rest,

@@ -5,6 +5,7 @@ use mathlib.Core.Path.{_≡_, refl, ap, _∙_}
 use mathlib.Core.Bool.{true}
 use mathlib.Core.List.{List, [], _∷_, _++_, map}
 use lib.IntN.{pos, negsuc}
+use lib.ListN.{length}
 use Rattle.grid.specs.declared.rect.Rect.{Rect}
 use Rattle.axis.specs.Axis.{apart, sq, gap}
 use Rattle.words.specs.Word.{stepsOf, wordOf}
@@ -62,16 +63,31 @@ nineStations : stations nineTable ≡ row
 unfolding nineTable stations partAt pageWords freeWords pageAt pageOf entryOf entryWords entriesWords wordOf
 nineStations = refl
 
--- the table that the three enrolments leave, and the walk from (8, 0) on it: 3 and 2 become candidates, and 2 hides 1
+-- the tables that the three enrolments leave, one after the other, and the walk from (8, 0) on the last: 3 and 2 become candidates, and 2 hides 1
+leaf : List Entry → Words
+leaf es = pos 0 ∷ pos (length es) ∷ pageWords (page 0 es) ++ freeSlots 255
+
 threeTable : Words
-threeTable = pos 0 ∷ pos 3 ∷ pageWords (page 0 (threeAt 1 0 ∷ threeAt 2 4 ∷ threeAt 3 10 ∷ [])) ++ freeSlots 255
+threeTable = leaf (threeAt 1 0 ∷ threeAt 2 4 ∷ threeAt 3 10 ∷ [])
+
+first-stored : enrolled emptyTable (threeAt 1 0) ≡ leaf (threeAt 1 0 ∷ [])
+unfolding leaf emptyTable enrolled isEmpty isFree partAt placed putPage pageWords freeWords entryWords entriesWords wordOf
+first-stored = refl
+
+second-stored : enrolled (leaf (threeAt 1 0 ∷ [])) (threeAt 2 4) ≡ leaf (threeAt 1 0 ∷ threeAt 2 4 ∷ [])
+unfolding leaf enrolled isEmpty isFree partAt placed putPage pageWords freeWords pageAt pageOf entryOf entryWords entriesWords wordOf settled
+second-stored = refl
+
+third-stored : enrolled (leaf (threeAt 1 0 ∷ threeAt 2 4 ∷ [])) (threeAt 3 10) ≡ threeTable
+unfolding threeTable leaf enrolled isEmpty isFree partAt placed putPage pageWords freeWords pageAt pageOf entryOf entryWords entriesWords wordOf settled
+third-stored = refl
 
 threeStored : threeEnrolled ≡ threeTable
-unfolding threeTable emptyTable enrolled isEmpty isFree partAt placed putPage pageWords freeWords pageAt pageOf entryOf entryWords entriesWords wordOf lowestFree settled chosen takesBefore lined firstShare otherShare coverOf entryFor areaOf growthOf longerAxis
-threeStored = refl
+threeStored =
+    ap (λ ws. enrolled (enrolled ws (threeAt 2 4)) (threeAt 3 10)) first-stored ∙ ap (λ ws. enrolled ws (threeAt 3 10)) second-stored ∙ third-stored
 
 threeFound : found threeTable (site (pos 8) (pos 0)) 1 ≡ record { candidates = threeAt 3 10 ∷ threeAt 2 4 ∷ []; opened = 1 }
-unfolding threeTable found isEmpty isFree partAt pageWords freeWords pageAt pageOf entryOf entryWords entriesWords wordOf nearestFirst pointHidden leastSquare gap asNear asNearTo dist² sq apart
+unfolding threeTable leaf found isEmpty isFree partAt pageWords freeWords pageAt pageOf entryOf entryWords entriesWords wordOf nearestFirst pointHidden leastSquare gap asNear asNearTo dist² sq apart
 threeFound = refl
 
 -- the walk from (−10, 0): slot 0 first, where point 1 becomes a candidate and hides the rest; then slot 1, which it hides too
