@@ -17,7 +17,7 @@ pub fn cards(seeds: u64) {
     let (mut tally, mut at_a_time) = ([0; 13], 0);
     for seed in 0..seeds {
         let mut r = Random(3000 + seed);
-        let whole = tied_table(&mut r, seed).words();
+        let whole = tied_table(&mut r, seed, 500, 9_999).words();
         for _ in 0..8 {
             one_card(&mut r, &whole, seed, &mut tally);
         }
@@ -34,16 +34,17 @@ pub fn cards(seeds: u64) {
     println!("cards: given back were {}", given.join(", "));
 }
 
-/// A table of 0 to 500 points with many ties: each point by one of two habits, some in the grid's corners, and in every third table some gone again.
-fn tied_table(r: &mut Random, seed: u64) -> Table {
+/// A table of 0 to `most` points, numbered up to `highest`, with many ties: each point by one of two habits, some in the grid's corners, and in every
+/// third table some gone again.
+pub fn tied_table(r: &mut Random, seed: u64, most: usize, highest: i64) -> Table {
     let mut t = Table::new();
-    let most = *r.pick(&[4, 20, 100, 500]);
-    let want = r.between(0, most) as usize;
+    let most = *r.pick(&[4, 20, 100, most]);
+    let want = r.below(most as u64 + 1) as usize;
     while t.points < want {
         let habit = seed + r.below(2);
         let ends = [-1_000_000, 1_000_000];
         let (x, y) = if r.below(40) == 0 { (*r.pick(&ends), *r.pick(&ends)) } else { r.place(habit) };
-        let number = if r.below(20) == 0 { *r.pick(&[1, 9_999]) } else { r.between(1, 9_999) };
+        let number = if r.below(20) == 0 { *r.pick(&[1, highest]) } else { r.between(1, highest) };
         t.enrol(number as i32, x, y);
     }
     if seed % 3 == 0 {

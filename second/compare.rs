@@ -1,5 +1,5 @@
 //! Compares the proved library with the second implementation, word by word.
-//! `compare check|changes|queries|cards SEEDS` runs that many seeds and says how many calls agreed; `compare bench` measures.
+//! `compare check|changes|queries|cards|newcomer SEEDS` runs that many seeds and says how many calls agreed; `compare bench` measures.
 //! `compare sheets SEEDS [PROGRAM]` runs the built program on random whole sheets.
 
 mod card;
@@ -7,6 +7,7 @@ mod cards;
 mod check;
 mod flat;
 mod library;
+mod newcomer;
 mod programs;
 mod query;
 mod random;
@@ -30,10 +31,11 @@ fn main() {
         Some("changes") => changes(seeds),
         Some("queries") => queries(seeds),
         Some("cards") => cards::cards(seeds),
+        Some("newcomer") => newcomer::newcomers(seeds),
         Some("sheets") => programs::sheets(seeds, args.get(3).map_or("target/bin/ullagreth", String::as_str)),
         Some("bench") => bench(),
         _ => {
-            eprintln!("usage: compare check|changes|queries|cards SEEDS, compare sheets SEEDS [PROGRAM], or compare bench");
+            eprintln!("usage: compare check|changes|queries|cards|newcomer SEEDS, compare sheets SEEDS [PROGRAM], or compare bench");
             std::process::exit(2);
         }
     }
@@ -255,7 +257,18 @@ fn bench() {
     println!("check of a full table: {:.1} microseconds", 1e6 * s / turns as f64);
 
     bench_sites(&mut r);
+    bench_one_place();
     cards::bench();
+}
+
+/// All 500 at the place of the query: the worst case before 02 §2, when every one of them answered.
+fn bench_one_place() {
+    let mut t = Table::new();
+    (1..=500).for_each(|number| assert_eq!(t.enrol(number, 7, -7), 0));
+    let (w, xs, ys) = (t.words(), [7; 500], [-7; 500]);
+    let mut counts = [0; 500];
+    let s = best(10, || assert_eq!(library::sites(&w, &xs, &ys, 5, &mut counts), 0));
+    println!("query, 500 points at its own place, k 5, {} answers: {:.1} microseconds a site", counts[0], 1e6 * s / counts.len() as f64);
 }
 
 /// One call for all sites on the library's side, and on the second's a query for each; every n must agree.

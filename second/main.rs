@@ -43,8 +43,17 @@ fn say(bytes: &[u8]) {
     std::io::stdout().write_all(bytes).expect("standard output");
 }
 
+/// Document 01's box, x 10 to 20, y -5 to 5, with q (0,0), as 02 §2 amends it: (20,0) discards it, at (10,5) and (10,-5) being just as near as q.
+fn box_is_discarded() {
+    let corners = table::Rect { low: [10, -5], high: [20, 5] }.corners();
+    for (c, want) in [([8, 0], true), ([20, 0], true), ([21, 0], false), ([0, 0], true), ([-1, 0], false)] {
+        assert_eq!(query::all_as_near(&corners, c, [0, 0]), want, "the candidate {c:?}");
+    }
+}
+
 /// The walk's answers are those of every pair, a card's names are the same by a sort and by a scan, and each table on the way is well formed.
 fn selftest() {
+    box_is_discarded();
     let mut r = random::Random(1);
     let (mut queries, mut cards) = (0, 0);
     for round in 0..60 {

@@ -11,7 +11,7 @@ pub struct Found {
     pub opened: usize,
 }
 
-/// The meaning, by counting every pair: fewer than k others strictly nearer to p than q is. The count stops at k.
+/// The meaning, by counting every pair: fewer than k others as near to p as q is, or nearer. The count stops at k.
 pub fn scan(stations: &[(i32, i64, i64)], q: [i64; 2], k: usize) -> Vec<i32> {
     let mut out: Vec<i32> = stations.iter().filter(|p| few(stations, p, q, k)).map(|p| p.0).collect();
     out.sort_unstable();
@@ -21,11 +21,11 @@ pub fn scan(stations: &[(i32, i64, i64)], q: [i64; 2], k: usize) -> Vec<i32> {
 fn few(stations: &[(i32, i64, i64)], p: &(i32, i64, i64), q: [i64; 2], k: usize) -> bool {
     let at = [p.1, p.2];
     let far = square(q, at);
-    let mut nearer = 0;
+    let mut as_near = 0;
     for c in stations {
-        if c.0 != p.0 && square([c.1, c.2], at) < far {
-            nearer += 1;
-            if nearer == k {
+        if c.0 != p.0 && square([c.1, c.2], at) <= far {
+            as_near += 1;
+            if as_near == k {
                 return false;
             }
         }
@@ -33,7 +33,7 @@ fn few(stations: &[(i32, i64, i64)], p: &(i32, i64, i64), q: [i64; 2], k: usize)
     true
 }
 
-/// The walk: candidates and opened nodes. `tested` says whether the final test counts in the tree (the same answers) or over all stations.
+/// The walk: candidates and opened nodes; the final test counts down the tree.
 pub fn walk(t: &Table, q: [i64; 2], k: usize) -> Found {
     let mut f = Found::default();
     if let Some(r) = t.root {
@@ -57,33 +57,33 @@ fn open(t: &Table, s: usize, q: [i64; 2], k: usize, f: &mut Found) {
         let e = &node.entries[i];
         if node.level == 0 {
             let p = e.rect.low;
-            let nearer = f.candidates.iter().filter(|c| square([c.1, c.2], p) < least).take(k).count();
-            if nearer < k {
+            let as_near = f.candidates.iter().filter(|c| square([c.1, c.2], p) <= least).take(k).count();
+            if as_near < k {
                 f.candidates.push((e.reference, p[0], p[1], least));
             }
         } else {
             let corners = e.rect.corners();
-            let hidden = f
-                .candidates
-                .iter()
-                .filter(|c| corners.iter().all(|&p| square([c.1, c.2], p) < square(q, p)))
-                .take(k)
-                .count();
-            if hidden < k {
+            let as_near = f.candidates.iter().filter(|c| all_as_near(&corners, [c.1, c.2], q)).take(k).count();
+            if as_near < k {
                 open(t, e.reference as usize, q, k, f);
             }
         }
     }
 }
 
-/// How many others are strictly nearer to the candidate than q, at most k, skipping boxes that cannot hold one.
+/// All corners are as near to c as to q, or nearer.
+pub fn all_as_near(corners: &[[i64; 2]], c: [i64; 2], q: [i64; 2]) -> bool {
+    corners.iter().all(|&p| square(c, p) <= square(q, p))
+}
+
+/// How many others are as near to the candidate as q is, or nearer; at most k, skipping boxes that cannot hold one.
 fn tree_count(t: &Table, s: usize, c: &(i32, i64, i64, i64), q: [i64; 2], k: usize) -> usize {
     let at = [c.1, c.2];
     let far = square(q, at);
     let node = t.slots[s].as_ref().unwrap();
     let mut sum = 0;
     for e in &node.entries {
-        if e.rect.least(at) >= far {
+        if e.rect.least(at) > far {
             continue;
         }
         if node.level > 0 {

@@ -17,7 +17,7 @@ pub fn sheet(seed: u64) -> Vec<u8> {
         2 => mixed(&mut r, 25, seed / KINDS + 1),
         3 => mixed(&mut r, 65, seed / KINDS + 2),
         4 => noise(&mut r),
-        5 => at_one_place(&mut r),
+        5 => around_one_place(&mut r),
         6 => short(&mut r),
         // A byte less than the longest, the longest, a byte more, and far more.
         7 => of_length(&mut r, [LONGEST - 1, LONGEST, LONGEST + 1, 300_000][(seed / KINDS % 4) as usize]),
@@ -124,17 +124,27 @@ fn noise(r: &mut Random) -> Vec<u8> {
     (0..r.below(20_000)).map(|_| if r.below(feeds) == 0 { b'\n' } else { some_byte(r) }).collect()
 }
 
-/// Many stations at one place, a run of queries there, and some cards: the output is far longer than the sheet.
-fn at_one_place(r: &mut Random) -> Vec<u8> {
+/// Five places around one, each nearer to it than to the next.
+const AROUND: [(i64, i64); 5] = [(1000, 0), (309, 951), (-809, 588), (-809, -588), (309, -951)];
+
+/// Sixteen stations at each of five places, and a run of queries amid them: with k 16 all eighty answer, so the output is far longer than the sheet.
+/// Then as many as there is room for at the very place of the queries, or fewer, a run of queries with any k, and some cards.
+fn around_one_place(r: &mut Random) -> Vec<u8> {
     let mut out = Vec::new();
-    let (x, y) = r.place(0);
-    let stations = *r.pick(&[9, 100, 499, 500, 501]);
-    for n in 0..stations {
+    let (x, y) = (r.between(-999_000, 999_000), r.between(-999_000, 999_000));
+    let stations = 80 + *r.pick(&[0, 9, 16, 17, 419, 420, 421]);
+    for n in 0..80 {
+        let (across, up) = AROUND[n % 5];
+        out.extend(format!("E\t{}\t{}\t{}\n", 9999 - 7 * n, x + across, y + up).into_bytes());
+    }
+    for _ in 0..r.between(300, 900) {
+        out.extend(format!("Q\t{x}\t{y}\t16\n").into_bytes());
+    }
+    for n in 80..stations {
         out.extend(format!("E\t{}\t{x}\t{y}\n", 9999 - 7 * n).into_bytes());
     }
-    let k = r.between(1, 16);
     for _ in 0..r.between(30, 300) {
-        out.extend(format!("Q\t{x}\t{y}\t{k}\n").into_bytes());
+        out.extend(format!("Q\t{x}\t{y}\t{}\n", r.between(1, 16)).into_bytes());
     }
     for _ in 0..20 {
         out.extend(format!("K\t{}\t{}\n", 9999 - 7 * r.between(0, stations), r.between(1, 16)).into_bytes());

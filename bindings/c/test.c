@@ -141,7 +141,8 @@ static void try_queries(const struct query *queries, size_t n, const struct poin
 {
     for (size_t i = 0; i < n; i++) {
         granted(&queries[i], points);
-        refused_for_answers(&queries[i], points);
+        if (queries[i].n > 0)
+            refused_for_answers(&queries[i], points);
     }
 }
 
@@ -169,12 +170,15 @@ static void three_and_four(void)
     static const struct query of_three[] = {
         {5, 0, 1, 2, 2, 1, {2, 3}, {2, 3}},
         {5, 0, 2, 3, 3, 1, {2, 1, 3}, {1, 2, 3}},
-        {8, 0, 1, 2, 2, 1, {3, 2}, {2, 3}},
+        {8, 0, 1, 1, 2, 1, {3, 2}, {3}},
     };
+    /* In the last three, 2 and 4 stand at q, as near to each of the others as q is. */
     static const struct query of_four[] = {
         {5, 0, 1, 1, 2, 1, {2, 3}, {3}},
         {5, 0, 2, 3, 3, 1, {2, 4, 3}, {2, 3, 4}},
-        {4, 0, 1, 4, 4, 1, {2, 4, 1, 3}, {1, 2, 3, 4}},
+        {4, 0, 1, 0, 1, 1, {2}, {0}},
+        {4, 0, 2, 2, 2, 1, {2, 4}, {2, 4}},
+        {4, 0, 3, 4, 4, 1, {2, 4, 1, 3}, {1, 2, 3, 4}},
     };
     ullagreth_empty(table);
     enrol_all(points, 3);
@@ -224,9 +228,12 @@ static void words_of_nine(int32_t *words)
 static void nine_points(void)
 {
     static int32_t wanted[WORDS];
-    /* The first is starred: slot 1 is never opened. In the second, slot 1 is; 3 and 6 are candidates and fail the final test. */
+    /* The first is starred: slot 1 is never opened, and 2 is as near to 1 as q is; a step on, or with k 2, 1 answers. In the last, slot 1 is
+     * opened; 3 and 6 are candidates and fail the final test. */
     static const struct query queries[] = {
-        {-10, 0, 1, 1, 1, 2, {1}, {1}},
+        {-10, 0, 1, 0, 1, 2, {1}, {0}},
+        {-9, 0, 1, 1, 1, 2, {1}, {1}},
+        {-10, 0, 2, 1, 2, 2, {1, 2}, {1}},
         {35, 0, 2, 2, 4, 3, {4, 3, 5, 6}, {4, 5}},
     };
     struct point points[9];
@@ -312,7 +319,7 @@ static void queries_refused(void)
     }
     for (size_t i = 0; i < LENGTH(ks); i++)
         query_refused(ULLAGRETH_NO_SUCH_K, WORDS, REACH, -REACH, ks[i], 0);
-    /* With k 16 all nine answer, with k 1 none: each has another nearer. */
+    /* With k 16 all nine answer, with k 1 none: each has another 10 away. */
     query_refused(ULLAGRETH_FEW_CANDIDATES, WORDS, -REACH, REACH, 16, 8);
     SAME(ask(WORDS, -REACH, REACH, 16, 9, 8), ULLAGRETH_SHORT_LIST);
     SAME(ask(WORDS, -REACH, REACH, 16, 9, 9), ULLAGRETH_DONE);
@@ -366,7 +373,7 @@ static void many_places(void)
             SAME(found[i], ask(WORDS, xs[i], ys[i], k, MOST, MOST) == ULLAGRETH_DONE ? counts[0] : 0);
         SAME(found[4], MARK);
     }
-    SAME(ullagreth_sites(table, WORDS, xs, 5, ys, 4, 1, found, 1), ULLAGRETH_DONE);
+    SAME(ullagreth_sites(table, WORDS, xs, 5, ys, 4, 2, found, 1), ULLAGRETH_DONE);
     SAME(found[0], 1);
     SAME(found[4], MARK);
     /* A refused table, by the check's number. */

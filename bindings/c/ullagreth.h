@@ -73,9 +73,9 @@ uint8_t ullagreth_enrol(int32_t *table, size_t table_length, int32_t number, int
  * then the table is well formed and holds its former points but this one, laid out as document 01's joining says. */
 uint8_t ullagreth_withdraw(int32_t *table, size_t table_length, int32_t number);
 
-/* Lists the points that have fewer than k others strictly nearer than (x, y). Gives the first of 1, 2, 4, 5, 9, 10 whose line holds, or 0: then
- * the front of the list has the m candidates in the order found, the front of the answers has the n point numbers, rising, and the rest of both
- * stays. Refusal 10 leaves the list as a success would and the answers as they were; any other refusal leaves both.
+/* Lists the points to which fewer than k others are as near as (x, y), or nearer. Gives the first of 1, 2, 4, 5, 9, 10 whose line holds, or 0:
+ * then the front of the list has the m candidates in the order found, the front of the answers has the n point numbers, rising, and the rest of
+ * both stays. Refusal 10 leaves the list as a success would and the answers as they were; any other refusal leaves both.
  * The first three counts become n, m, o (10: n, 0, 0; any other refusal: 0, 0, 0) and the rest stays; a row of fewer than three stays whole. */
 uint8_t ullagreth_query(const int32_t *table, size_t table_length, int32_t x, int32_t y, int32_t k,
                         struct ullagreth_candidate *list, size_t list_length, uint32_t *answers, size_t answers_length,

@@ -122,11 +122,14 @@ fn three_points_and_a_fourth(t: &mut Tally) {
     enrolled(t, &mut table, &points[..3]);
     asked(t, &table, &points, &Wanted { at: (5, 0), k: 1, candidates: &[2, 3], answers: &[2, 3], opened: 1 });
     asked(t, &table, &points, &Wanted { at: (5, 0), k: 2, candidates: &[2, 1, 3], answers: &[1, 2, 3], opened: 1 });
-    asked(t, &table, &points, &Wanted { at: (8, 0), k: 1, candidates: &[3, 2], answers: &[2, 3], opened: 1 });
+    asked(t, &table, &points, &Wanted { at: (8, 0), k: 1, candidates: &[3, 2], answers: &[3], opened: 1 });
     enrolled(t, &mut table, &points[3..]);
     asked(t, &table, &points, &Wanted { at: (5, 0), k: 1, candidates: &[2, 3], answers: &[3], opened: 1 });
     asked(t, &table, &points, &Wanted { at: (5, 0), k: 2, candidates: &[2, 4, 3], answers: &[2, 3, 4], opened: 1 });
-    asked(t, &table, &points, &Wanted { at: (4, 0), k: 1, candidates: &[2, 4, 1, 3], answers: &[1, 2, 3, 4], opened: 1 });
+    // At q stand 2 and 4, as near to each of the others as q is.
+    asked(t, &table, &points, &Wanted { at: (4, 0), k: 1, candidates: &[2], answers: &[], opened: 1 });
+    asked(t, &table, &points, &Wanted { at: (4, 0), k: 2, candidates: &[2, 4], answers: &[2, 4], opened: 1 });
+    asked(t, &table, &points, &Wanted { at: (4, 0), k: 3, candidates: &[2, 4, 1, 3], answers: &[1, 2, 3, 4], opened: 1 });
 }
 
 /// Number i at (10 × (i − 1), 0).
@@ -153,8 +156,10 @@ fn nine_points(t: &mut Tally) {
     let used = [vec![2, 9], leaf(&points[..4]), leaf(&points[4..]), root].concat();
     t.same_words(table.words(), &[used, free.repeat(SLOTS - 3)].concat());
 
-    // Slot 1 is never opened.
-    asked(t, &table, &points, &Wanted { at: (-10, 0), k: 1, candidates: &[1], answers: &[1], opened: 2 });
+    // Slot 1 is never opened. At (-10, 0) 2 is as near to 1 as q is; at (-9, 0) it is not.
+    asked(t, &table, &points, &Wanted { at: (-10, 0), k: 1, candidates: &[1], answers: &[], opened: 2 });
+    asked(t, &table, &points, &Wanted { at: (-9, 0), k: 1, candidates: &[1], answers: &[1], opened: 2 });
+    asked(t, &table, &points, &Wanted { at: (-10, 0), k: 2, candidates: &[1, 2], answers: &[1], opened: 2 });
     // Here it is; 3 and 6 are candidates and fail the final test.
     asked(t, &table, &points, &Wanted { at: (35, 0), k: 2, candidates: &[4, 3, 5, 6], answers: &[4, 5], opened: 3 });
 
@@ -168,8 +173,8 @@ fn nine_points(t: &mut Tally) {
 /// The row of counts: of three places or more the first three, of fewer none.
 fn rows_of_counts(t: &mut Tally) {
     let (table, _) = nine();
-    for (places, want) in [(0, vec![]), (2, vec![9, 9]), (3, vec![1, 1, 2]), (5, vec![1, 1, 2, 9, 9])] {
-        let (mut list, mut answers) = lists(9, 1);
+    for (places, want) in [(0, vec![]), (2, vec![9, 9]), (3, vec![0, 1, 2]), (5, vec![0, 1, 2, 9, 9])] {
+        let (mut list, mut answers) = lists(9, 0);
         let mut row = vec![9; places];
         t.same(lent::query(table.words(), -10, 0, 1, &mut list, &mut answers, &mut row), 0);
         t.same(row, want);
@@ -219,7 +224,7 @@ fn queries_refused(t: &mut Tally) {
     for k in [0, 17, -1, i32::MAX, i32::MIN] {
         refused(t, &table, (EDGE, -EDGE), k, 8, Refusal::NoSuchK);
     }
-    // With k 16 all nine answer, with k 1 none: each has another nearer.
+    // With k 16 all nine answer, with k 1 none: each has another 10 away.
     refused(t, &table, (-EDGE, EDGE), 16, 8, Refusal::FewCandidates);
     let query = |k, places| {
         let (mut list, mut answers) = lists(9, places);
@@ -293,7 +298,7 @@ fn many_places(t: &mut Tally) {
         t.same(counts, want);
     }
     let mut one = [UNSAID];
-    t.same(table.sites(&xs, &ys, 1, &mut one), Ok(()));
+    t.same(table.sites(&xs, &ys, 2, &mut one), Ok(()));
     t.same(one, [1]);
     let (short, mut damaged) = (&table.words()[1..], table.words().to_vec());
     damaged[1] = 10;

@@ -137,7 +137,7 @@ impl Table {
         granted(lent::withdraw(&mut self.0, number), 0)
     }
 
-    /// Lists the points that have fewer than k others strictly nearer than (x, y): `list[..m]` are the candidates in the order found,
+    /// Lists the points to which fewer than k others are as near as (x, y), or nearer: `list[..m]` are the candidates in the order found,
     /// `answers[..n]` the point numbers, rising; the rest of both stays. A refusal (1, 2, 4, 5, 9, 10) leaves both as they were, but for
     /// `ShortList`, which leaves the list as a success would.
     pub fn query(&self, x: i32, y: i32, k: i32, list: &mut [Candidate], answers: &mut [u32]) -> Result<Counts, Refusal> {
