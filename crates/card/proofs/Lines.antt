@@ -1,12 +1,10 @@
 -- The laws of a card: all others lie in card order, the card is the front of them. Assumes nothing.
-use Prim.Native.Nat.{ℕ, _≤_, _<_, min}
-use native.Mathlib.Omega.{arith}
+use Prim.Native.Nat.{ℕ, min}
 use native.Mathlib.Nat.{eq-or-lt-of-le}
-use mathlib.Core.Path.{_≡_, refl, sym, ap, subst, _∙_}
+use mathlib.Core.Path.{_≡_, sym, ap, subst, _∙_}
 use mathlib.Core.Logic.{inl, inr, ⊎-elim}
 use mathlib.Core.Bool.{Bool, true, cond, true≢false}
-use mathlib.Core.List.{List, map, [], _∷_, _++_, map-append, List·Memᴰ·append-cases, List·Memᴰ·head, List·Memᴰ·tail, Memᴰ·append-left, Memᴰ·map, Memᴰ·of-map}
-use lib.Dec.{eqb}
+use mathlib.Core.List.{List, map, [], _∷_, _++_, map-append, List·Memᴰ·append-cases, Memᴰ·append-left, Memᴰ·map, Memᴰ·of-map}
 use lib.ListN.{length, take, drop, length-take, take-append-drop}
 use borrow.Author.Tests.{eq-eqb, not-true}
 use Rattle.grid.specs.Site.{distance²}
@@ -20,7 +18,7 @@ use Rattle.rules.proofs.Joined.{nodup-left}
 use Rattle.table.specs.Stations.{Station}
 use Rattle.filter.specs.Meaning.{isOther}
 use Rattle.card.specs.Card.{inCardOrder, cardOf, namesOf}
-use Rattle.card.specs.Laws.{Before, CardLaws, AnyCard}
+use Rattle.card.specs.Laws.{Before, AnyCard}
 
 -- what a filter keeps of a list in which no number stands twice
 nodup-filter : {A B : Type 0} (f : A → B) (P : A → Bool) (xs : List A) → NoDup (map f xs) → NoDup (map f (filter P xs))

@@ -1,7 +1,7 @@
 -- Laws of the order and the two shares of more than eight entries: they are the same entries in another order, the shares have half each, and a map into entries goes through. Each follows from the laws of the stable order. Assumes nothing.
 use Prim.Native.Nat.{ℕ, zero, suc, _-_, _/_}
 use native.Mathlib.Omega.{arith}
-use mathlib.Core.Path.{_≡_, refl, sym, ap}
+use mathlib.Core.Path.{_≡_, refl, sym}
 use mathlib.Core.List.{List, [], _∷_, _++_, map, map-id}
 use lib.ListN.{length, take, drop, length-take, length-drop, length-map, take-append-drop}
 use Rattle.grid.specs.Place.{longerAxis, sumOn}

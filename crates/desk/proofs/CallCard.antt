@@ -1,27 +1,25 @@
 -- A card: what it hands back where it is refused, and where the list decides; that any two outcomes which its promise permits are equal; and that the names are those of the one station with the number. Assumes nothing.
 use Prim.Native.Nat.{ℕ, _<_}
 use native.Mathlib.Omega.{arith}
-use mathlib.Core.Path.{_≡_, refl, sym, ap, subst, _∙_}
-use mathlib.Core.Bool.{Bool, true, false, cond}
-use mathlib.Core.List.{List, [], _∷_, map, List·Memᴰ·head, List·Memᴰ·not-nil, Memᴰ·map, Memᴰ·of-map, Memᴰ·cast, List·Memᴰ·cases-cons}
-use mathlib.Core.Logic.{⊎-elim}
-use lib.Dec.{eqb, leb, ltb}
+use mathlib.Core.Path.{_≡_, refl, sym, ap, _∙_}
+use mathlib.Core.Bool.{Bool, true, cond}
+use mathlib.Core.List.{List, [], _∷_, map, List·Memᴰ·head, List·Memᴰ·not-nil, Memᴰ·of-map}
+use lib.Dec.{eqb, ltb}
 use lib.IntN.{ℤ}
 use lib.ListN.{length}
 use borrow.Author.Tests.{eqb-true, eq-eqb, ltb-true, ltb-false, lt-ltb, le-ltb, lt-leb, le-leb}
-use Rattle.words.specs.Word.{IsWord, natOf}
+use Rattle.words.specs.Word.{natOf}
 use Rattle.order.specs.Lists.{filter, has, Mem, NoDup}
 use Rattle.order.proofs.Lists.{by-bool, filter-mem, mem-filter, has-mem, nodup-one}
 use Rattle.table.specs.declared.given.Given.{Given}
 use Rattle.table.specs.declared.given.Given.the-variants.{Done, ShortList}
 use Rattle.table.specs.Words.{Words}
 use Rattle.table.specs.Stations.{Station, stations}
-use Rattle.rules.specs.Rules.{Passing}
 use Rattle.filter.specs.Query.{laidOver}
 use Rattle.card.specs.Card.{namesOf, namesOfFirst, namesFor}
 use Rattle.naming.specs.Named.{Named}
 use Rattle.refusals.specs.declared.carding.Carded.{Carded}
-use Rattle.refusals.specs.Refusals.{isEnrolled, cardGives}
+use Rattle.refusals.specs.Refusals.{cardGives}
 use Rattle.refusals.specs.Cases.{ifDone, ifShortList}
 use Rattle.refusals.specs.Carding.{carded, cardTold}
 use Rattle.refusals.proofs.Given.{if-refused, if-not-few}

@@ -9,7 +9,7 @@ use lib.ListN.{length, length-map}
 use Rattle.words.specs.Word.{IsWord, natOf}
 use Rattle.grid.specs.Site.{Site}
 use Rattle.grid.proofs.Site.{SiteOnGrid}
-use Rattle.order.specs.Lists.{count, filter, Mem, All}
+use Rattle.order.specs.Lists.{filter, All}
 use Rattle.order.proofs.Lists.{length-filter, filter-mem, all-mem, mem-all, all-perm, all-then, all-map, count-most}
 use Rattle.order.proofs.Order.{sort-perm, sort-length}
 use Rattle.table.specs.declared.given.Given.the-variants.{Done}

@@ -1,25 +1,22 @@
 -- A newcomer with the highest number is named exactly on the cards of the stations that answer the query at its place: by what an enrolment keeps, and the law of the card. Assumes nothing.
-use Prim.Native.Nat.{ℕ, _<_}
+use Prim.Native.Nat.{_<_}
 use native.Mathlib.Omega.{arith}
-use mathlib.Core.Path.{_≡_, refl, sym, ap, subst, _∙_}
-use mathlib.Core.Bool.{Bool, true, false}
+use mathlib.Core.Path.{_≡_, refl}
+use mathlib.Core.Bool.{false}
 use mathlib.Core.List.{_∷_, Memᴰ·of-map}
 use lib.IntN.{ℤ}
 use Rattle.words.specs.Word.{natOf}
 use Rattle.grid.specs.Site.{Site}
-use Rattle.order.specs.Lists.{has}
 use Rattle.order.proofs.Lists.{by-bool, mem-all, has-mem}
 use Rattle.table.specs.declared.given.Given.the-variants.{Done}
 use Rattle.table.specs.Words.{Words}
-use Rattle.table.specs.Stations.{Station, stations}
+use Rattle.table.specs.Stations.{stations}
 use Rattle.rules.specs.Rules.{Passing}
-use Rattle.joining.specs.Enrol.{enrolled}
 use Rattle.card.specs.Laws.{Newcomer}
 use Rattle.card.proofs.Newcomer.{named-answers, answers-named}
 use Rattle.refusals.specs.Refusals.{numbersOf, isEnrolled, enrolGives}
-use Rattle.refusals.specs.Cases.{ifDone}
 use Rattle.refusals.proofs.CallOrder.{enrol-0}
-use Rattle.desk.specs.Calls.{pointEntry, afterEnrol}
+use Rattle.desk.specs.Calls.{afterEnrol}
 use Rattle.desk.specs.Newcomer.{CanJoin, NewcomerNamed}
 use Rattle.desk.proofs.Passing.{passing-once}
 use Rattle.desk.proofs.Kept.{Kept, stationAt, enrol-kept}

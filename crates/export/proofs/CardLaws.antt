@@ -4,8 +4,7 @@ use native.Mathlib.Omega.{arith}
 use native.Mathlib.Numerals.{add-one}
 use mathlib.Core.Path.{_≡_, refl, sym, ap, _∙_}
 use mathlib.Core.Bool.{cond}
-use mathlib.Core.List.{List, [], _∷_, _++_, append-assoc}
-use lib.Dec.{ltb}
+use mathlib.Core.List.{List, _++_, append-assoc}
 use lib.IntN.{ℤ, pos}
 use lib.ListN.{length, take, drop, getD, length-append, length-drop, take-append-drop}
 use lib.Seq.{drop-cons, drop-drop, take-at, drop-at, length-take-le}

@@ -1,16 +1,15 @@
 -- A small truth of the meaning: with k or fewer points enrolled every point answers, since no point is its own other. And who stands in the answer. Assumes nothing.
-use Prim.Native.Nat.{ℕ, _≤_, _<_}
+use Prim.Native.Nat.{ℕ, _≤_}
 use native.Mathlib.Omega.{arith}
-use mathlib.Core.Path.{_≡_, refl, sym, ap, _∙_}
-use mathlib.Core.Logic.{⊎-elim}
+use mathlib.Core.Path.{_≡_, refl, ap}
 use mathlib.Core.Bool.{Bool, true, false, _&&_}
-use mathlib.Core.List.{List, [], _∷_, map, List·Memᴰ·not-nil, List·Memᴰ·cases-cons, Memᴰ·map, Memᴰ·of-map}
+use mathlib.Core.List.{List, [], _∷_, map, Memᴰ·map, Memᴰ·of-map}
 use lib.ListN.{length}
 use borrow.Author.Tests.{lt-ltb, eq-eqb}
 use Rattle.grid.specs.Site.{Site}
 use Rattle.order.specs.Lists.{one, count, filter, Mem, All}
 use Rattle.order.proofs.Perm.{psym, perm-mem}
-use Rattle.order.proofs.Lists.{one-most, count-most, filter-mem, mem-filter, all-mem, count-less}
+use Rattle.order.proofs.Lists.{filter-mem, mem-filter, all-mem, count-less}
 use Rattle.order.proofs.Order.{sort-perm}
 use Rattle.table.specs.Stations.{Station}
 use Rattle.filter.specs.Meaning.{asNearOther, answersTo, rising, answer}

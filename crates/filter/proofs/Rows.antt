@@ -2,7 +2,7 @@
 use Prim.Native.Nat.{ℕ, suc, _+_, _-_, _≤_, _<_, _^_}
 use native.Mathlib.Omega.{arith}
 use mathlib.Core.Path.{_≡_, refl, sym, ap, _∙_}
-use mathlib.Core.Bool.{Bool, true}
+use mathlib.Core.Bool.{true}
 use mathlib.Core.List.{List, [], _∷_, _++_, map, map-append, append-assoc}
 use lib.IntN.{pos}
 use lib.ListN.{length, getD, drop, set, length-append, length-drop, length-map, List·getD-append}
@@ -12,7 +12,7 @@ use Rattle.grid.specs.declared.place.Place.{Place}
 use Rattle.grid.specs.Place.{dist², spotOf}
 use Rattle.words.proofs.Words.{steps-word}
 use Rattle.grid.proofs.Rects.{place-ext}
-use Rattle.order.specs.Lists.{one, count, All}
+use Rattle.order.specs.Lists.{All}
 use Rattle.filter.specs.Query.{laidOver}
 use Rattle.filter.specs.Walk.{spotIn}
 use Rattle.filter.specs.Rows.{Rows, entryIn, listed, laidIn, Room, Kept}

@@ -4,11 +4,11 @@ use native.Mathlib.Omega.{arith}
 use mathlib.Core.Path.{_≡_, sym, ap, subst, _∙_}
 use mathlib.Core.Logic.{⊎-elim}
 use mathlib.Core.Bool.{true, cond, not, _&&_, false≢true}
-use mathlib.Core.List.{List, map, List·Memᴰ·head, Memᴰ·append-right, Memᴰ·of-map}
+use mathlib.Core.List.{map, Memᴰ·of-map}
 use lib.Dec.{eqb}
 use lib.IntN.{pos, negsuc}
 use lib.ListN.{length, length-set}
-use borrow.Author.Tests.{eqb-true, eq-eqb, ne-eqb}
+use borrow.Author.Tests.{eq-eqb, ne-eqb}
 use Rattle.order.specs.Lists.{has, Mem}
 use Rattle.order.proofs.Perm.{perm-map, perm-mem}
 use Rattle.order.proofs.Lists.{by-bool, has-mem}
@@ -26,7 +26,6 @@ use Rattle.rules.proofs.WellFormed.{Held, well-formed-means, empty-stations}
 use Rattle.change.specs.Choose.{entryIn}
 use Rattle.change.specs.Planted.{Planted}
 use Rattle.leaving.specs.Withdraw.{holds, removed, emptied, givenWay, lowered, withdrawn, Removable, Lowerable, MayWithdraw}
-use Rattle.leaving.proofs.WithdrawCut.{first-split}
 use Rattle.change.proofs.Planting.{planted-inside}
 use Rattle.leaving.proofs.Withdrawn.{found, root-lowerable}
 

@@ -1,35 +1,33 @@
 -- The names of the best marks, and that they are those of the card. Assumes nothing.
-use Prim.Native.Nat.{ℕ, zero, suc, _+_, _*_, _%_, _≤_, _<_, min}
+use Prim.Native.Nat.{ℕ, zero, suc, _+_, _≤_, _<_, min}
 use native.Mathlib.Omega.{arith}
 use native.Mathlib.Numerals.{add-one}
 use native.Mathlib.Decide.{decLe}
 use mathlib.Core.Path.{_≡_, refl, sym, ap, subst, _∙_}
 use mathlib.Core.Logic.{⊎-elim}
 use mathlib.Core.Bool.{Bool, true, false, cond, not, _&&_}
-use mathlib.Core.List.{List, [], _∷_, _++_, map, map-append, map-map, List·Memᴰ·head, List·Memᴰ·not-nil, Memᴰ·map, Memᴰ·cast}
-use lib.Dec.{eqb, leb, ltb}
-use lib.ListN.{length, take, getD, set, replicate, length-map, length-append, length-replicate}
+use mathlib.Core.List.{List, [], _∷_, _++_, map, map-append, map-map, List·Memᴰ·head, List·Memᴰ·not-nil, Memᴰ·map}
+use lib.Dec.{eqb, ltb}
+use lib.ListN.{length, take, getD, set, replicate, length-map, length-replicate}
 use lib.Seq.{take-suc, length-take-le}
 use borrow.Author.Tests.{eqb-true, le-leb, lt-leb, lt-ltb, le-ltb}
-use Rattle.words.specs.Word.{IsWord}
 use Rattle.grid.specs.declared.place.Place.{Place}
 use Rattle.grid.specs.Place.{PlaceOnGrid, dist²}
 use Rattle.grid.specs.Site.{distance², placeOf}
 use Rattle.grid.proofs.Rects.{dist-most}
 use Rattle.grid.proofs.Site.{dist-sites}
-use Rattle.order.specs.Lists.{one, count, filter, join, Mem, All, Rises}
+use Rattle.order.specs.Lists.{count, filter, join, Mem, All, Rises}
 use Rattle.order.specs.Order.{sortBy, least, ptrans, NONE}
 use Rattle.order.proofs.Perm.{psym, perm-map}
 use Rattle.order.proofs.Lists.{by-bool, map-take, count-most, count-append, perm-count, filter-mem, mem-all, all-mem, all-map, all-perm, all-then, all-take, all-replicate, count-map, count-same, count-filter}
 use Rattle.order.proofs.Order.{sort-perm}
 use Rattle.order.proofs.Pairwise.{pairwise-take, pairwise-then, pairwise-map, InLine, sort-rises}
 use Rattle.order.proofs.Least.{upTo, low, low-none, low-all, take-low, rises-only, least-rises, least-low, least-same, least-is}
-use Rattle.figures.specs.Figures.{LENGTH}
 use Rattle.table.specs.declared.node.Entry.{Entry}
 use Rattle.table.specs.Words.{Words, rootOf}
 use Rattle.table.specs.Slots.{slots, levelAt}
 use Rattle.table.specs.Stations.{Station, stationOfEntry, stations}
-use Rattle.rules.specs.Rules.{leafEntries, isEmpty, wellFormed, Passing}
+use Rattle.rules.specs.Rules.{leafEntries, isEmpty, Passing}
 use Rattle.rules.proofs.FromRules.{part-fits}
 use Rattle.rules.proofs.Enrolled.{stations-leaves}
 use Rattle.rules.proofs.Reading.{Point}
@@ -44,7 +42,7 @@ use Rattle.vetting.proofs.Below.{root-count}
 use Rattle.vetting.proofs.Testing.{all-points}
 use Rattle.card.specs.Card.{inCardOrder, cardOf, namesOf, namesOfFirst, namesFor}
 use Rattle.card.proofs.Lines.{order-perm, in-line}
-use Rattle.naming.specs.declared.find.Whereabouts.the-variants.{At, Nowhere}
+use Rattle.naming.specs.declared.find.Whereabouts.the-variants.{At}
 use Rattle.naming.specs.Holders.{BASE, markOf, numberIn, markFrom, isAnother, marksOf}
 use Rattle.naming.specs.Named.{whereIn, whereOf, Named}
 

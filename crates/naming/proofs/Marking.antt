@@ -1,16 +1,13 @@
 -- The marks of the others among some points: of points joined or permuted, and of the points in a box that lies further away than the last of the best. What the best are after the first of a node's entries. Assumes nothing.
-use Prim.Native.Nat.{ℕ, suc, _+_, _-_, _*_, _/_, _≤_, _<_}
+use Prim.Native.Nat.{ℕ, suc, _+_, _-_, _≤_, _<_}
 use native.Mathlib.Omega.{arith}
 use native.Mathlib.Numerals.{add-one}
 use mathlib.Core.Path.{_≡_, refl, sym, ap, subst, _∙_}
-use mathlib.Core.Bool.{Bool, true, false, cond}
 use mathlib.Core.List.{List, [], _∷_, _++_, map, map-append, append-nil}
-use lib.Dec.{eqb}
 use lib.ListN.{length, take, drop, getD, length-append, take-append-drop}
 use lib.Seq.{take-suc, take-all, drop-cons}
 use borrow.Author.Tests.{eq-eqb, ne-eqb}
 use Rattle.grid.specs.declared.place.Place.{Place}
-use Rattle.grid.specs.declared.rect.Rect.{Rect}
 use Rattle.grid.specs.Place.{Inside, dist², leastSquare}
 use Rattle.grid.proofs.Rects.{dist-sym, least-square-least}
 use Rattle.order.specs.Lists.{filter, join, All, Pairwise, Rises}
@@ -25,7 +22,7 @@ use Rattle.rules.proofs.Joined.{all-join}
 use Rattle.filter.specs.Walk.{spotIn, nearestFirst}
 use Rattle.filter.proofs.Taken.{taken-length}
 use Rattle.filter.proofs.Rising.{filter-append, perm-filter}
-use Rattle.naming.specs.Holders.{BASE, markOf, squareIn, markFrom, isAnother, marksOf}
+use Rattle.naming.specs.Holders.{markOf, squareIn, markFrom, isAnother, marksOf}
 
 module _ (number : ℕ) (p : Place) where
   pub marks-none : marksOf number p [] ≡ []

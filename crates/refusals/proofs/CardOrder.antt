@@ -1,7 +1,7 @@
 -- The lines of a card in their order: what the check refuses is refused, on a table that passes it the number and k, then whether it is enrolled, and the list decides last. By the tests of the lines. Assumes nothing.
 use Prim.Native.Nat.{ℕ}
 use native.Mathlib.Omega.{arith}
-use mathlib.Core.Path.{_≡_, refl, sym, ap, _∙_}
+use mathlib.Core.Path.{_≡_, refl, sym, ap}
 use mathlib.Core.Bool.{Bool, true, false, cond}
 use lib.Dec.{ltb}
 use lib.IntN.{ℤ}

@@ -2,9 +2,9 @@
 use Prim.Native.Nat.{ℕ, _<_, min}
 use native.Mathlib.Omega.{arith}
 use native.Mathlib.Decide.{decLt}
-use mathlib.Core.Path.{_≡_, refl, sym, ap, _∙_}
+use mathlib.Core.Path.{_≡_, sym, ap, _∙_}
 use mathlib.Core.Bool.{Bool, true, false, not, _&&_}
-use mathlib.Core.List.{List, [], _∷_}
+use mathlib.Core.List.{List}
 use lib.Dec.{eqb, ltb}
 use lib.ListN.{length}
 use borrow.Author.Tests.{lt-ltb, le-ltb}
@@ -14,7 +14,7 @@ use Rattle.grid.specs.Place.{dist²}
 use Rattle.grid.specs.Site.{Site, placeOf}
 use Rattle.grid.specs.AsNear.{asNearTo}
 use Rattle.grid.proofs.Site.{SiteOnGrid}
-use Rattle.order.specs.Lists.{one, count, join, All}
+use Rattle.order.specs.Lists.{count, join, All}
 use Rattle.order.proofs.Lists.{count-most, count-map, count-same}
 use Rattle.order.proofs.Order.{up-all}
 use Rattle.table.specs.declared.node.Entry.{Entry}

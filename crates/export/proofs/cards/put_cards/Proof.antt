@@ -1,5 +1,5 @@
 -- `export::cards::put_cards` meets its contract. The loop's invariant: the cards of the numbers passed stand in their stretches. Assumes nothing.
-use Prim.Native.Nat.{_+_, _-_, _≤_, _<_}
+use Prim.Native.Nat.{_+_, _-_, _≤_}
 use native.Mathlib.Omega.{arith}
 use mathlib.Core.Path.{_≡_, ap}
 use lib.IntN.{pos}
@@ -10,7 +10,7 @@ use mir.Val.{toZ}
 use Rattle.refusals.proofs.CallTests.{back, one-passed}
 use Rattle.desk.specs.Calls.{Listed, afterCard}
 use Rattle.export.specs.Cards.{cardsOver}
-use Rattle.export.proofs.CardLaws.{Laid, laid-none, laid-next, laid-short, laid-all}
+use Rattle.export.proofs.CardLaws.{Laid, laid-next, laid-short, laid-all}
 use borrow.Author.Needs.{needs}
 use Rattle.export.proofs.cards.put_cards.Statement.{statement}
 use Rattle.export.proofs.cards.put_cards.Tie as tie

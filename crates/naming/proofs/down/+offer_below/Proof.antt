@@ -7,7 +7,7 @@ use lib.ListN.{length, getD}
 use borrow.Author.Needs.{needs}
 use borrow.Author.Tests.{ltb-true}
 use Rattle.grid.specs.Place.{Inside, RectOnGrid, leastSquare}
-use Rattle.order.specs.Lists.{join, All}
+use Rattle.order.specs.Lists.{All}
 use Rattle.order.specs.Order.{least}
 use Rattle.order.proofs.Lists.{all-then}
 use Rattle.table.specs.declared.node.Entry.{Entry}

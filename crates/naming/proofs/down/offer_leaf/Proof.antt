@@ -4,7 +4,7 @@ use native.Mathlib.Omega.{arith}
 use mathlib.Core.Path.{_≡_, ap, _∙_}
 use mathlib.Core.Bool.{true}
 use mathlib.Core.List.{List, [], _∷_, _++_}
-use lib.ListN.{length, getD}
+use lib.ListN.{length}
 use Rattle.order.specs.Order.{least}
 use Rattle.order.proofs.Lists.{join-one, all-at}
 use Rattle.table.specs.declared.node.Entry.{Entry}

@@ -1,10 +1,10 @@
 -- `naming::down::offer_point` meets its contract: the station itself has no mark, another point has one. Assumes nothing.
-use Prim.Native.Nat.{ℕ, _≤_, _<_}
+use Prim.Native.Nat.{ℕ}
 use native.Mathlib.Omega.{arith}
-use mathlib.Core.Path.{_≡_, refl, sym, ap, _∙_}
-use mathlib.Core.List.{List, [], _∷_, _++_}
+use mathlib.Core.Path.{refl, sym, ap, _∙_}
+use mathlib.Core.List.{List, _∷_, _++_}
 use lib.ListN.{length}
-use Rattle.grid.specs.Place.{PlaceOnGrid, dist²}
+use Rattle.grid.specs.Place.{PlaceOnGrid}
 use Rattle.grid.proofs.Rects.{dist-most}
 use Rattle.order.specs.Order.{least}
 use Rattle.order.proofs.Least.{least-row}

@@ -1,7 +1,7 @@
 -- `naming::find::find` meets its contract. The loop's invariant: the station stands where it stands from this slot on. Assumes nothing.
 use Prim.Native.Nat.{_-_, _≤_}
 use native.Mathlib.Omega.{arith}
-use mathlib.Core.Path.{_≡_, sym, _∙_}
+use mathlib.Core.Path.{sym, _∙_}
 use Rattle.figures.specs.Figures.{SLOTS}
 use Rattle.rules.specs.Rules.{leafEntries}
 use Rattle.naming.proofs.Standing.{StandsFrom, stands-start, slot-here, slot-further, no-slot, somewhere, nowhere}

@@ -1,13 +1,12 @@
 -- `naming::find::find_in` meets its contract. The loop's invariant: the number stands at none of the first `i` entries. Assumes nothing.
-use Prim.Native.Nat.{_+_, _-_, _≤_}
+use Prim.Native.Nat.{_-_, _≤_}
 use native.Mathlib.Omega.{arith}
 use mathlib.Core.Path.{_≡_, refl, sym, ap, _∙_}
 use mathlib.Core.Bool.{true, false}
 use borrow.Author.Tests.{eq-eqb, ne-eqb}
-use lib.ListN.{length, drop}
+use lib.ListN.{drop}
 use Rattle.order.proofs.Lists.{drop-all}
 use Rattle.table.specs.declared.node.Entry.{Entry}
-use Rattle.table.specs.Words.{Words}
 use Rattle.table.specs.Slots.{levelAt, entriesAt}
 use Rattle.table.specs.Stations.{isLeaf}
 use Rattle.filter.specs.Walk.{spotIn}

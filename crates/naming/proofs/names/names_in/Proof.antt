@@ -1,5 +1,5 @@
 -- `naming::names::names_in` meets its contract. The loop's invariant: `n` counts the holders in the first `i` places. Assumes nothing.
-use Prim.Native.Nat.{_+_, _-_, _≤_}
+use Prim.Native.Nat.{_-_, _≤_}
 use native.Mathlib.Omega.{arith}
 use mathlib.Core.Path.{_≡_, ap, _∙_}
 use lib.Dec.{ltb}

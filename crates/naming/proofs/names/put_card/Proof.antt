@@ -1,6 +1,6 @@
 -- `naming::names::put_card` meets its contract: the row that it lends has a place for each name. Assumes nothing.
 use Prim.Native.Nat.{ℕ}
-use mathlib.Core.Path.{_≡_, sym, ap, subst, _∙_}
+use mathlib.Core.Path.{sym, ap, subst, _∙_}
 use lib.ListN.{replicate}
 use borrow.Author.Needs.{needs}
 use Rattle.order.specs.Order.{NONE}

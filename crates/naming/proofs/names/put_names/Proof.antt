@@ -1,5 +1,5 @@
 -- `naming::names::put_names` meets its contract. The loop's invariant: the names of the first `i` marks lie over the front of the list. Assumes nothing.
-use Prim.Native.Nat.{_+_, _-_, _≤_, _<_}
+use Prim.Native.Nat.{_-_, _≤_, _<_}
 use native.Mathlib.Omega.{arith}
 use mathlib.Core.Path.{_≡_, _∙_}
 use mathlib.Core.List.{map}

@@ -1,5 +1,5 @@
 -- `refuse::is_enrolled` meets its contract: a number is enrolled exactly if it stands somewhere. Assumes nothing.
-use mathlib.Core.Path.{_≡_, sym, ap, _∙_}
+use mathlib.Core.Path.{sym, ap, _∙_}
 use Rattle.words.proofs.Machine.{natural-passed}
 use Rattle.order.specs.Lists.{has}
 use Rattle.naming.proofs.Standing.{somewhere, nowhere}
