@@ -1,2 +1,2 @@
+pub mod Slate
 pub mod Asked
-pub mod Records

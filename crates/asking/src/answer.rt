@@ -1,4 +1,4 @@
-// A query on a well-formed table, with the candidate list as a lent row of records.
+// A query on a well-formed table, for the answers alone: it writes on rows that are lent to it.
 ghost use mathlib.Core.Path.{_≡_};
 ghost use mathlib.Core.Bool.{cond};
 ghost use Prim.Native.Nat.{_≤_};
@@ -6,11 +6,11 @@ ghost use lib.Dec.{leb};
 ghost use lib.ListN.{length, take};
 ghost use Rattle.filter.specs.Meaning.{rising};
 ghost use Rattle.filter.specs.Query.{laidOver};
-ghost use Rattle.asking.specs.Asked.{Askable, Listed};
-use crate::fill::fill;
-use figures::Table;
+ghost use Rattle.asking.specs.Slate.{slate};
+ghost use Rattle.asking.specs.Asked.{Askable, Replied};
+use filter::find::find;
 use filter::seen::Seen;
-use record::Candidate;
+use filter::site::place_of;
 use vetting::answering::put_rising;
 use vetting::keep::keep_passing;
 
@@ -21,18 +21,13 @@ pub struct Reply {
     pub o: usize,
 }
 
-// Room for the numbers of as many candidates as a table has points.
-fn numbers() -> [u32; Table::MOST] {
-    [0; Table::MOST]
-}
-
 // The n numbers kept go in rising order to the answer list; a list that is shorter than n stays as it was.
-fn put_answers(seen: Seen, n: usize, kept: [u32; Table::MOST], answers: &mut [u32]) -> Reply
-    requires { ⌜ n ≤ length kept ⌝ }
+fn put_answers(seen: Seen, n: usize, kept: &[u32], answers: &mut [u32]) -> Reply
+    requires { ⌜ n ≤ length (now kept) ⌝ }
     ensures { λ r.
         ⌜
         (r ≡ record { n = n; m = seen .candidates; o = seen .opened })
-        × (now (answers .exit) ≡ cond (leb n (length (now (answers .entry)))) (laidOver (rising (take n kept)) (now (answers .entry))) (now (answers .entry)))
+        × (now (answers .exit) ≡ cond (leb n (length (now (answers .entry)))) (laidOver (rising (take n (now (kept .entry)))) (now (answers .entry))) (now (answers .entry)))
         ⌝ }
 {
     let m = seen.candidates;
@@ -41,29 +36,34 @@ fn put_answers(seen: Seen, n: usize, kept: [u32; Table::MOST], answers: &mut [u3
     if answers.len() < n {
         return reply;
     }
-    put_rising(&kept, n, answers);
+    put_rising(kept, n, answers);
     reply
 }
 
-// The candidates found go to the list, and are read back from it for the final test.
+// The walk notes the candidates in the four rows, and the final test reads them there; the numbers of those that pass stand in `kept` before they go to the answer list.
 pub fn answer(
     table: &[i32],
     x: i32,
     y: i32,
     k: usize,
-    list: &mut [Candidate],
+    numbers: &mut [u32],
+    xs: &mut [u64],
+    ys: &mut [u64],
+    bars: &mut [u64],
+    kept: &mut [u32],
     answers: &mut [u32],
 ) -> Reply
-    requires { ⌜ Askable (now table) (record { x = x; y = y }) (length (now list)) ⌝ }
+    requires { ⌜ Askable (now table) (record { x = x; y = y }) (slate (now numbers) (now xs) (now ys) (now bars) (now kept)) ⌝ }
     ensures { λ r.
         ⌜
-        Listed (now (table .entry)) (record { x = x; y = y }) k (now (list .entry)) (now (list .exit)) (now (answers .entry))
-        (now (answers .exit)) r
+        Replied (now (table .entry)) (record { x = x; y = y }) k
+        (slate (now (numbers .entry)) (now (xs .entry)) (now (ys .entry)) (now (bars .entry)) (now (kept .entry)))
+        (slate (now (numbers .exit)) (now (xs .exit)) (now (ys .exit)) (now (bars .exit)) (now (kept .exit)))
+        (now (answers .entry)) (now (answers .exit)) r
         ⌝ }
 {
-    let seen = fill(table, x, y, k, list);
-    let m = seen.candidates;
-    let mut kept = numbers();
-    let n = keep_passing(table, list, m, k, &mut kept);
+    let seen = find(table, x, y, k, numbers, xs, ys, bars);
+    let q = place_of(x, y);
+    let n = keep_passing(table, numbers, xs, ys, bars, seen.candidates, q, k, kept);
     put_answers(seen, n, kept, answers)
 }

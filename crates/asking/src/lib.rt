@@ -1,6 +1,4 @@
-// The whole query on a well-formed table: the walk, its candidates handed over to the lent list of records, the final test, the answers.
-// It promises the list, the answers and the counts that filter's definitions name.
-// It stands on filter, whose walk is proved over four plain rows of numbers, record, whose list gets the records made of those rows, and vetting; its proofs stand on walks.
+// The whole query on a well-formed table: the walk, the final test, the answers.
+// It promises the answers, the counts, and what is left in the rows that it writes on, as filter's definitions name them.
+// It stands on filter, whose walk is proved over plain rows of numbers, and vetting.
 pub mod answer;
-pub mod fill;
-pub mod hand;

@@ -1,5 +1,5 @@
--- The laws of one axis: distances and their squares, spans that grow, what lies in a span, and the gap to it. Assumes nothing.
-use mathlib.Core.Path.{_≡_, refl, sym, ap, _∙_, subst}
+-- The laws of one axis: distances and their squares, spans that grow, what lies in a span, the gap to it, and its worst end. Assumes nothing.
+use mathlib.Core.Path.{_≡_, refl, ap, subst}
 use mathlib.Core.Bool.{Bool, true, false, cond}
 use mathlib.Core.Logic.{_⊎_, inl, inr, ⊎-elim}
 use Prim.Native.Nat.{ℕ, _+_, _-_, _*_, _≤_, _<_}
@@ -8,12 +8,8 @@ use native.Mathlib.Nat.{mul-le-mul}
 use native.Mathlib.Omega.{arith}
 use borrow.Author.Tests.{lt-ltb, le-ltb}
 use lib.Dec.{ltb}
-use lib.IntN.{ℤ, pos, subℕ, _*ℤ_}
-use lib.Signed.{ltZ}
 use Rattle.axis.specs.declared.span.Span.{Span}
-use Rattle.axis.specs.declared.span.Ends.{Ends}
-use Rattle.axis.specs.Axis.{OnGrid, SpanOnGrid, InSpan, SpanWithin, apart, sq, spanGrown, spanLength, gap, endsOf, leadOf}
-use Rattle.axis.proofs.Signs.{Is, is-sub, is-times, lt-both}
+use Rattle.axis.specs.Axis.{OnGrid, SpanOnGrid, InSpan, SpanWithin, apart, sq, spanGrown, spanLength, gap, worstEnd}
 
 -- ---- distances
 
@@ -51,13 +47,25 @@ cross =
     by-gap (λ a b. (l p : ℕ) → l ≤ p → a * p + b * l ≤ b * p + a * l)
     (λ a d. by-gap (λ l p. a * p + (a + d) * l ≤ (a + d) * p + a * l) (λ l e. omega arith))
 
--- at one end of the span the comparison of a with b is no better for a than at p
-pub worst : (a b : ℕ) (s : Span) (p : ℕ) → InSpan p s → (sq b (s .low) + sq a p ≤ sq b p + sq a (s .low)) ⊎ (sq b (s .high) + sq a p ≤ sq b p + sq a (s .high))
-worst a b s p i =
-    ⊎-elim
-    (λ l. inr (omega (arith, cross a b l p (s .high) (i .high), sq-law a p, sq-law b p, sq-law a (s .high), sq-law b (s .high))))
-    (λ l. inl (omega (arith, cross b a l (s .low) p (i .low), sq-law a p, sq-law b p, sq-law a (s .low), sq-law b (s .low))))
-    (either a b)
+-- at the worst end c does no better against q than at any p of the span
+pub worst : (c q : ℕ) (s : Span) (p : ℕ) → InSpan p s → sq q (worstEnd s c q) + sq c p ≤ sq q p + sq c (worstEnd s c q)
+worst c q s p i = go (decLt c q)
+  where
+    go : Dec (c < q) → sq q (worstEnd s c q) + sq c p ≤ sq q p + sq c (worstEnd s c q)
+    go (yes l) =
+        rw (lt-ltb c q l)
+        (omega (arith, cross c q (omega arith) p (s .high) (i .high), sq-law c p, sq-law q p, sq-law c (s .high), sq-law q (s .high)))
+    go (no g) =
+        let l : q ≤ c = omega arith in
+        rw (le-ltb c q l) (omega (arith, cross q c l (s .low) p (i .low), sq-law c p, sq-law q p, sq-law c (s .low), sq-law q (s .low)))
+
+-- it is one of the two ends
+pub worst-one : (s : Span) (c q : ℕ) → (worstEnd s c q ≡ s .low) ⊎ (worstEnd s c q ≡ s .high)
+worst-one s c q = go (ltb c q)
+  where
+    go : (b : Bool) → (cond b (s .high) (s .low) ≡ s .low) ⊎ (cond b (s .high) (s .low) ≡ s .high)
+    go true = inr refl
+    go false = inl refl
 
 -- ---- bounds on the grid
 
@@ -136,62 +144,3 @@ gap-least a i = omega arith
 pub gap-square-least : {p : ℕ} {s : Span} (a : ℕ) → InSpan p s → gap s a * gap s a ≤ sq a p
 unfolding sq
 gap-square-least a i = mul-le-mul (gap-least a i) (gap-least a i)
-
--- ---- the ends of a span
-
-pub ends-ext : {s t : Ends} → s .low ≡ t .low → s .high ≡ t .high → s ≡ t
-ends-ext p q = λ i. record { low = p i; high = q i }
-
--- how far c lies beyond q, times an end v
-abbrev product : ℕ → ℕ → ℕ → ℤ
-product c q v = subℕ c q *ℤ (pos 2 *ℤ subℕ v q)
-
--- it is `gains` less `loses`
-abbrev gains : ℕ → ℕ → ℕ → ℕ
-gains c q v = c * (2 * v + 0 * q) + q * (2 * q + 0 * v)
-
-abbrev loses : ℕ → ℕ → ℕ → ℕ
-loses c q v = c * (2 * q + 0 * v) + q * (2 * v + 0 * q)
-
-is-end : (c q v : ℕ) → Is (product c q v) (gains c q v) (loses c q v)
-is-end c q v = is-times (subℕ c q) (pos 2 *ℤ subℕ v q) c q _ _ (is-sub c q) (is-times (pos 2) (subℕ v q) 2 0 v q refl (is-sub v q))
-
-lesser-end : (c q v w : ℕ) → ltZ (product c q v) (product c q w) ≡ ltb (gains c q v + loses c q w) (gains c q w + loses c q v)
-lesser-end c q v w =
-    lt-both (product c q v) (product c q w) (gains c q v) (loses c q v) (gains c q w) (loses c q w) (is-end c q v) (is-end c q w)
-
--- and what c leads by there, with the square that it has to lead by
-at-end : (c q v : ℕ) → gains c q v + sq c v ≡ loses c q v + (sq q c + sq q v)
-at-end c q v = omega (arith, sq-law q v, sq-law c v, sq-law q c)
-
--- the lead of c over q, `more` less `less`: at neither end does c lead by less, and at one of the two by no more
-pub record Lead (s : Span) (c q : ℕ) (z : ℤ) : Type 0 where
-  pub more : ℕ
-  pub less : ℕ
-  pub is : Is z more less
-  pub low : more + sq c (s .low) ≤ less + (sq q c + sq q (s .low))
-  pub high : more + sq c (s .high) ≤ less + (sq q c + sq q (s .high))
-  pub one : (less + (sq q c + sq q (s .low)) ≤ more + sq c (s .low)) ⊎ (less + (sq q c + sq q (s .high)) ≤ more + sq c (s .high))
-
--- at the end v with the lesser product
-lead-at : (s : Span) (c q v : ℕ) → gains c q v + loses c q (s .low) ≤ gains c q (s .low) + loses c q v → gains c q v + loses c q (s .high) ≤ gains c q (s .high) + loses c q v
-    → (v ≡ s .low) ⊎ (v ≡ s .high) → Lead s c q (product c q v)
-lead-at s c q v a b end =
-    let l = at-end c q (s .low) in
-    let h = at-end c q (s .high) in
-    record { more = gains c q v; less = loses c q v; is = is-end c q v; low = omega arith; high = omega arith; one = go end }
-  where
-    go : (v ≡ s .low) ⊎ (v ≡ s .high) → (loses c q v + (sq q c + sq q (s .low)) ≤ gains c q v + sq c (s .low)) ⊎ (loses c q v + (sq q c + sq q (s .high)) ≤ gains c q v + sq c (s .high))
-    go (inl e) = inl (subst (λ (w : ℕ). loses c q v + (sq q c + sq q w) ≤ gains c q v + sq c w) e (let i = at-end c q v in omega arith))
-    go (inr e) = inr (subst (λ (w : ℕ). loses c q v + (sq q c + sq q w) ≤ gains c q v + sq c w) e (let i = at-end c q v in omega arith))
-
-pub lead : (s : Span) (c q : ℕ) → Lead s c q (leadOf (endsOf s q) c q)
-unfolding leadOf
-lead s c q = go (decLt (gains c q (s .low) + loses c q (s .high)) (gains c q (s .high) + loses c q (s .low)))
-  where
-    chosen : (b : Bool) → ltb (gains c q (s .low) + loses c q (s .high)) (gains c q (s .high) + loses c q (s .low)) ≡ b → Lead s c q (cond b (product c q (s .low)) (product c q (s .high))) → Lead s c q (leadOf (endsOf s q) c q)
-    chosen b t = subst (λ (b′ : Bool). Lead s c q (cond b′ (product c q (s .low)) (product c q (s .high)))) (sym (lesser-end c q (s .low) (s .high) ∙ t))
-
-    go : Dec (gains c q (s .low) + loses c q (s .high) < gains c q (s .high) + loses c q (s .low)) → Lead s c q (leadOf (endsOf s q) c q)
-    go (yes u) = chosen true (lt-ltb _ _ u) (lead-at s c q (s .low) (omega arith) (omega arith) (inl refl))
-    go (no u) = let v : gains c q (s .high) + loses c q (s .low) ≤ gains c q (s .low) + loses c q (s .high) = omega arith in chosen false (le-ltb _ _ v) (lead-at s c q (s .high) (omega arith) (omega arith) (inr refl))

@@ -1,3 +1,2 @@
-pub mod Signs
 pub mod Axis
 pub mod Machine

@@ -1,11 +1,8 @@
 -- One axis, in steps. What serves both axes is said here, once.
 use Prim.Native.Nat.{ℕ, _+_, _-_, _*_, _≤_, min, max}
 use mathlib.Core.Bool.{Bool, _&&_, cond}
-use lib.Dec.{leb}
-use lib.IntN.{ℤ, pos, natAbs, subℕ, _*ℤ_}
-use lib.Signed.{ltZ}
+use lib.Dec.{leb, ltb}
 use Rattle.axis.specs.declared.span.Span.{Span}
-use Rattle.axis.specs.declared.span.Ends.{Ends}
 
 -- the coordinate is on the grid: a million steps to either side of the false origin at most
 pub record OnGrid (a : ℕ) : Type 0 where
@@ -53,19 +50,6 @@ pub record SpanWithin (s t : Span) : Type 0 where
   pub low : t .low ≤ s .low
   pub high : s .high ≤ t .high
 
--- the lesser of two signed numbers
-abbrev pub leastOf : ℤ → ℤ → ℤ
-leastOf a b = cond (ltZ a b) a b
-
--- twice how far the two ends of the span lie beyond q
-abbrev pub endsOf : Span → ℕ → Ends
-endsOf s q = record { low = pos 2 *ℤ subℕ (s .low) q; high = pos 2 *ℤ subℕ (s .high) q }
-
--- no end is further from a place on the grid
-pub record EndsFit (e : Ends) : Type 0 where
-  pub low : natAbs (e .low) ≤ 4000000
-  pub high : natAbs (e .high) ≤ 4000000
-
--- how far c lies beyond q, times the ends: the lesser of the two products
-unfoldable pub leadOf : Ends → ℕ → ℕ → ℤ
-leadOf e c q = leastOf (subℕ c q *ℤ e .low) (subℕ c q *ℤ e .high)
+-- of the two ends of the span the one where c does worse against q: the high end if c lies below q, else the low one
+abbrev pub worstEnd : Span → ℕ → ℕ → ℕ
+worstEnd s c q = cond (ltb c q) (s .high) (s .low)

@@ -1,18 +1,11 @@
 // One axis of a rectangle: a stretch of steps. What serves both axes is here, once.
 ghost use mathlib.Core.Path.{_≡_};
-ghost use Prim.Native.Nat.{_+_, _-_, _*_, _≤_, _<_, min, max};
-ghost use lib.IntN.{subℕ};
-ghost use Rattle.axis.specs.Axis.{OnGrid, SpanOnGrid, EndsFit, sq, spanGrown, spanLength, spanSum, gap, leastOf, endsOf, leadOf};
+ghost use Prim.Native.Nat.{_+_, _-_, _*_, _<_, min, max};
+ghost use Rattle.axis.specs.Axis.{OnGrid, SpanOnGrid, sq, spanGrown, spanLength, spanSum, gap};
 
 pub struct Span {
     pub low: u64,
     pub high: u64,
-}
-
-// Twice how far the two ends of a span lie beyond a coordinate; below nothing where they lie short of it.
-pub struct Ends {
-    pub low: i64,
-    pub high: i64,
 }
 
 // How far a lies beyond b; 0 if it does not.
@@ -32,21 +25,6 @@ pub(crate) fn greater(a: u64, b: u64) -> u64
     ensures { λ r. ⌜ r ≡ max a b ⌝ }
 {
     if a < b { b } else { a }
-}
-
-// The lesser of two signed numbers.
-fn least(a: i64, b: i64) -> i64
-    ensures { λ r. ⌜ r ≡ leastOf a b ⌝ }
-{
-    if a < b { a } else { b }
-}
-
-// How far a lies beyond b; below nothing where it lies short of it. It has no branch.
-fn from(a: u64, b: u64) -> i64
-    requires { ⌜ OnGrid a × OnGrid b ⌝ }
-    ensures { λ r. ⌜ r ≡ subℕ a b ⌝ }
-{
-    a as i64 - b as i64
 }
 
 // The squared distance of two coordinates. The square of a signed difference does not ask which is the greater.
@@ -90,26 +68,5 @@ impl Span {
     {
         let d = beyond(self.low, at) + beyond(at, self.high);
         d * d
-    }
-
-    // Twice how far the two ends lie beyond q: computed once for many c.
-    pub fn ends(self, q: u64) -> Ends
-        requires { ⌜ SpanOnGrid self × OnGrid q ⌝ }
-        ensures { λ r. ⌜ r ≡ endsOf self q ⌝ }
-    {
-        let low = 2 * from(self.low, q);
-        let high = 2 * from(self.high, q);
-        Ends { low, high }
-    }
-}
-
-impl Ends {
-    // How far c lies beyond q, times the ends: the lesser of the two products.
-    pub fn lead(self, c: u64, q: u64) -> i64
-        requires { ⌜ EndsFit self × OnGrid c × OnGrid q ⌝ }
-        ensures { λ r. ⌜ r ≡ leadOf self c q ⌝ }
-    {
-        let away = from(c, q);
-        least(away * self.low, away * self.high)
     }
 }

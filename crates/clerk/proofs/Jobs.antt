@@ -13,6 +13,7 @@ use Rattle.table.specs.Stations.{stations}
 use Rattle.filter.specs.Query.{answersFound}
 use Rattle.card.specs.Card.{namesFor}
 use Rattle.words.specs.Word.{natOf}
+use Rattle.asking.specs.Slate.{Slate}
 use Rattle.refusals.specs.declared.answered.Answered.{Answered}
 use Rattle.refusals.specs.declared.carding.Carded.{Carded}
 use Rattle.refusals.specs.Refusals.{site, enrolGives, withdrawGives, queryGives, cardGives}
@@ -31,7 +32,7 @@ use Rattle.jobs.specs.Job.{ENROL, WITHDRAW, jobOf}
 use Rattle.slip.specs.Output.{letterOf, outputLine, Laid}
 use Rattle.clerk.specs.Sheet.{State, Ran, ranJob, ranLine, lineOutput}
 use Rattle.clerk.specs.Sheet as ran
-use Rattle.clerk.specs.Running.{lent, jobOutput, RanJob, RanOne}
+use Rattle.clerk.specs.Running.{lent, jobOutput, RanJob, RanOne, slateOfJob}
 
 -- ---- a line, by its job
 
@@ -41,6 +42,10 @@ unfolding ranLine lineOutput jobOutput
 line-ran {number} {line} {job} {before} {after} {out} {at} {left} {next} e r =
     let s : RanJob number (jobOf line) before after out at left next = subst (λ j. RanJob number j before after out at left next) e r in
     record { state = s .state; laid = s .laid }
+
+-- the slate after it
+pub line-slate : (line : Bytes) (st : State) (s : Slate) {job : Job} {t : Slate} → job ≡ jobOf line → t ≡ slateOfJob st job s → t ≡ slateOfJob st (jobOf line) s
+line-slate line st s {t = t} e h = subst (λ j. t ≡ slateOfJob st j s) e h
 
 -- ---- jobs that leave the answer list
 
@@ -100,7 +105,7 @@ module _ {number : ℕ} {job : Job} {ws : Words} {old new : List ℕ} {g : Given
 
 -- ---- a query
 
-module _ {ws : Words} {a b k : ℤ} {old new : List ℕ} {r : Answered} (told : AnswersAlone ws (site a b) k old new r) where
+module _ {ws : Words} {a b k : ℤ} {s t : Slate} {old new : List ℕ} {r : Answered} (told : AnswersAlone ws (site a b) k s t old new r) where
   abbrev asked : Queried
   asked = afterQuery ws (site a b) k blankList old
 

@@ -8,10 +8,11 @@ run-ext a n f = λ i. record { at = a i; number = n i; filled = f i }
 
 pub one-outcome : OneOutcome
 one-outcome = record {
-  line = λ number line before after after′ out at left left′ next next′ p q. (
+  line = λ number line before after after′ out at left left′ next next′ s t t′ p u q v. (
     p .state ∙ sym (q .state),
     p .laid .laid ∙ sym (q .laid .laid),
     p .laid .behind ∙ sym (q .laid .behind),
+    u ∙ sym v,
   );
   lines = λ sheet at number before after after′ out left left′ r r′ p q.
       let a = p .exact in

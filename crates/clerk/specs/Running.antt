@@ -1,4 +1,4 @@
--- Line after line, as the code runs them: the table and the answer list are lent, and the output lines are laid into a lent buffer.
+-- Line after line, as the code runs them: the table and the answer list are lent, the queries write on a lent slate, and the output lines are laid into a lent buffer.
 use Prim.Native.Nat.{ℕ, zero, suc, _+_, _*_, _≤_, _<_}
 use mathlib.Core.Path.{_≡_}
 use mathlib.Core.Bool.{Bool, cond, _&&_}
@@ -9,9 +9,14 @@ use Rattle.figures.specs.Figures.{MOST}
 use Rattle.table.specs.Words.{Words}
 use Rattle.rules.specs.Rules.{Passes}
 use Rattle.table.specs.Given.{numberGiven}
+use Rattle.asking.specs.Slate.{Slate}
+use Rattle.refusals.specs.Refusals.{site}
+use Rattle.desk.specs.Alone.{slateLeft}
 use Rattle.sheet.specs.Bytes.{Bytes, linesOf}
 use Rattle.sheet.specs.Marks.{lineOf, nextOf}
 use Rattle.jobs.specs.declared.job.Job.{Job}
+use Rattle.jobs.specs.declared.job.Job.the-variants.{Enrol, Withdraw, Query, Card, MissingK, Misshapen}
+use Rattle.jobs.specs.Job.{jobOf}
 use Rattle.slip.specs.Output.{letterOf, outputLine, laidAt, Laid}
 use Rattle.clerk.specs.declared.run.Run.{Run}
 use Rattle.clerk.specs.Sheet.{State, ranJob, ranLine, lineOutput, linesOutput, LONGEST, start, sheetOutput}
@@ -39,6 +44,15 @@ pub record RanJob (number : ℕ) (job : Job) (before after : State) (out : Bytes
 pub record RanOne (number : ℕ) (line : Bytes) (before after : State) (out : Bytes) (at : ℕ) (left : Bytes) (next : ℕ) : Type 0 where
   pub state : after ≡ ranLine before line .state
   pub laid : Laid out at (lineOutput number before line) left next
+
+-- what a job leaves on the slate: only a query writes on it
+abbrev pub slateOfJob : State → Job → Slate → Slate
+slateOfJob st (Query a b k) s = slateLeft (st .words) (site a b) k (length (st .answers)) s
+slateOfJob st (Enrol n a b) s = s
+slateOfJob st (Withdraw n) s = s
+slateOfJob st (Card n k) s = s
+slateOfJob st (MissingK letter) s = s
+slateOfJob st Misshapen s = s
 
 -- ---- a run of lines
 
@@ -142,9 +156,10 @@ WholeSheet = (sheet : Bytes) → length sheet ≤ LONGEST → FromStart sheet
 -- ---- any two outcomes that a promise permits are equal
 
 pub record OneOutcome : Type 0 where
-  pub line : (number : ℕ) (line : Bytes) (before after after′ : State) (out : Bytes) (at : ℕ) (left left′ : Bytes) (next next′ : ℕ)
-      → RanOne number line before after out at left next → RanOne number line before after′ out at left′ next′
-      → (after ≡ after′) × (left ≡ left′) × (next ≡ next′)
+  pub line : (number : ℕ) (line : Bytes) (before after after′ : State) (out : Bytes) (at : ℕ) (left left′ : Bytes) (next next′ : ℕ) (s t t′ : Slate)
+      → RanOne number line before after out at left next → t ≡ slateOfJob before (jobOf line) s
+      → RanOne number line before after′ out at left′ next′ → t′ ≡ slateOfJob before (jobOf line) s
+      → (after ≡ after′) × (left ≡ left′) × (next ≡ next′) × (t ≡ t′)
   pub lines : (sheet : Bytes) (at number : ℕ) (before after after′ : State) (out left left′ : Bytes) (r r′ : Run)
       → RanLines sheet at number before after out left r → RanLines sheet at number before after′ out left′ r′
       → (after ≡ after′) × (left ≡ left′) × (r ≡ r′)

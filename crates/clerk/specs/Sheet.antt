@@ -20,7 +20,7 @@ use Rattle.jobs.specs.declared.job.Job.the-variants.{Enrol, Withdraw, Query, Ca
 use Rattle.jobs.specs.Job.{jobOf}
 use Rattle.slip.specs.Output.{letterOf, outputLine}
 
--- the table and the answer list; the candidate list is the query's own
+-- the table and the answer list; what a query writes on besides, its candidates, nobody sees
 pub record State : Type 0 where
   pub words : Words
   pub answers : List ℕ

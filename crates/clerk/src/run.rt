@@ -5,6 +5,7 @@ ghost use lib.ListN.{length};
 ghost use Rattle.rules.specs.Rules.{Passes};
 ghost use Rattle.clerk.specs.Running.{lent, longestLine, RanLines};
 use crate::line::run_line;
+use figures::Table;
 use sheet::reader::line_here;
 use sheet::reader::next_here;
 use words::lent::are_words;
@@ -45,6 +46,12 @@ pub fn run_lines(
     // Every call keeps the table well formed, and its words within 32 bits, as they are here.
     are_words(table);
     let need = longest_line(answers.len());
+    // The rows that the queries write on, made once for all lines.
+    let mut numbers = [0u32; Table::MOST];
+    let mut xs = [0u64; Table::MOST];
+    let mut ys = [0u64; Table::MOST];
+    let mut bars = [0u64; Table::MOST];
+    let mut kept = [0u32; Table::MOST];
     let mut run = Run {
         at,
         number,
@@ -55,7 +62,19 @@ pub fn run_lines(
             return run;
         }
         let line = line_here(sheet, run.at);
-        let filled = run_line(line, run.number, table, answers, out, run.filled);
+        let filled = run_line(
+            line,
+            run.number,
+            table,
+            &mut numbers,
+            &mut xs,
+            &mut ys,
+            &mut bars,
+            &mut kept,
+            answers,
+            out,
+            run.filled,
+        );
         run = Run {
             at: next_here(sheet, run.at),
             number: run.number + 1,

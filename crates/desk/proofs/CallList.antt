@@ -20,7 +20,7 @@ use Rattle.filter.specs.Query.{answersFound, laidOver}
 use Rattle.filter.proofs.Rows.{laid-length}
 use Rattle.asking.specs.declared.answer.Reply.{Reply}
 use Rattle.record.specs.declared.Candidate.{Candidate}
-use Rattle.asking.specs.Asked.{Listed}
+use Rattle.listing.specs.Listed.{Listed}
 use Rattle.refusals.specs.Refusals.{queryGives}
 use Rattle.desk.specs.Calls.{afterQuery}
 use Rattle.refusals.specs.Cases.{refuses}

@@ -8,6 +8,7 @@ use Rattle.table.specs.declared.given.Given.{Given}
 use Rattle.table.specs.Words.{Words}
 use Rattle.audit.specs.Check.{checkGives}
 use Rattle.record.specs.declared.Candidate.{Candidate}
+use Rattle.asking.specs.Slate.{Slate}
 use Rattle.refusals.specs.declared.answered.Answered.{Answered}
 use Rattle.refusals.specs.declared.carding.Carded.{Carded}
 use Rattle.refusals.specs.Refusals.{enrolGives, withdrawGives}
@@ -30,8 +31,8 @@ pub record OneOutcome : Type 0 where
   -- every record of the candidate list, every number of the answer list, and what is handed back
   pub query : (ws : Words) (q : Site) (k : ℤ) (before after after′ : List Candidate) (old new new′ : List ℕ) (r r′ : Answered)
       → Answers ws q k before after old new r → Answers ws q k before after′ old new′ r′ → (after ≡ after′) × (new ≡ new′) × (r ≡ r′)
-  -- the same where the candidate list is the call's own
-  pub answers : (ws : Words) (q : Site) (k : ℤ) (old new new′ : List ℕ) (r r′ : Answered)
-      → AnswersAlone ws q k old new r → AnswersAlone ws q k old new′ r′ → (new ≡ new′) × (r ≡ r′)
+  -- the same where a slate is lent in place of the candidate list: all that is left on it
+  pub answers : (ws : Words) (q : Site) (k : ℤ) (before after after′ : Slate) (old new new′ : List ℕ) (r r′ : Answered)
+      → AnswersAlone ws q k before after old new r → AnswersAlone ws q k before after′ old new′ r′ → (after ≡ after′) × (new ≡ new′) × (r ≡ r′)
   -- every number of the list, and what is handed back
   pub card : (ws : Words) (n k : ℤ) (old new new′ : List ℕ) (r r′ : Carded) → Cards ws n k old new r → Cards ws n k old new′ r′ → (new ≡ new′) × (r ≡ r′)

@@ -2,8 +2,8 @@
 ghost use Rattle.rules.specs.Rules.{Passes};
 ghost use Rattle.refusals.specs.Refusals.{site};
 ghost use Rattle.desk.specs.Lent.{Answers};
-use asking::answer::answer;
 use audit::check;
+use listing::listed::answer_listed;
 use record::Candidate;
 use refusals::answered::Answered;
 use refusals::answered::handed_back;
@@ -34,7 +34,7 @@ pub fn query_passing(
     if is_refused(given) {
         return refused(given);
     }
-    let reply = answer(table, x, y, natural(k), candidates, answers);
+    let reply = answer_listed(table, x, y, natural(k), candidates, answers);
     handed_back(reply, answers.len())
 }
 

@@ -16,6 +16,7 @@ use Rattle.table.specs.Words.{Words}
 use Rattle.audit.specs.Check.{checkGives}
 use Rattle.filter.specs.Query.{answersFound, laidOver}
 use Rattle.filter.proofs.Rows.{laid-set}
+use Rattle.asking.specs.Slate.{Slate}
 use Rattle.refusals.specs.declared.answered.Answered.{Answered}
 use Rattle.refusals.specs.Refusals.{site, queryGives}
 use Rattle.desk.specs.Calls.{afterQuery}
@@ -28,7 +29,7 @@ use Rattle.export.proofs.Telling.{check-refuses, check-passes}
 
 -- ---- one place
 
-module _ {ws : Words} {q : Site} {k : ℤ} {old new : List ℕ} {r : Answered} (size : length old ≡ MOST) (told : AnswersAlone ws q k old new r) where
+module _ {ws : Words} {q : Site} {k : ℤ} {s t : Slate} {old new : List ℕ} {r : Answered} (size : length old ≡ MOST) (told : AnswersAlone ws q k s t old new r) where
   -- the query that is told has two lists of 500
   given-most : r .given ≡ queryGives ws q k MOST MOST
   unfolding afterQuery

@@ -1,25 +1,35 @@
 // How many answers each of many places has, on a table that passes the check: who asks for many pays for one check.
 ghost use mathlib.Core.Path.{_≡_};
 ghost use Prim.Native.Nat.{min};
+ghost use lib.ListN.{length};
+ghost use Rattle.figures.specs.Figures.{MOST};
 ghost use Rattle.rules.specs.Rules.{Passes};
+ghost use Rattle.asking.specs.Slate.{slate, Wide};
 ghost use Rattle.refusals.specs.Refusals.{site};
 ghost use Rattle.export.specs.Sites.{siteCount, countsOver};
 use desk::answers::answers_passing;
 use figures::Table;
 use table::given::Given;
 
-// Room for as many answers as a table has points. The numbers in it nobody reads: the count is all that is asked.
-fn blank_answers() -> [u32; Table::MOST] {
-    [0; Table::MOST]
-}
-
-// How many answers one place has.
-fn count_at(table: &[i32], x: i32, y: i32, k: i32) -> u32
-    requires { ⌜ Passes (now table) ⌝ }
+// How many answers one place has. The query writes on the five rows, and its answers nobody reads: the count is all that is asked.
+fn count_at(
+    table: &[i32],
+    x: i32,
+    y: i32,
+    k: i32,
+    numbers: &mut [u32],
+    xs: &mut [u64],
+    ys: &mut [u64],
+    bars: &mut [u64],
+    kept: &mut [u32],
+    answers: &mut [u32],
+) -> u32
+    requires { ⌜
+        Passes (now table) × Wide MOST (slate (now numbers) (now xs) (now ys) (now bars) (now kept)) × (length (now answers) ≡ MOST)
+        ⌝ }
     ensures { λ r. ⌜ r ≡ siteCount (now (table .entry)) k (site x y) ⌝ }
 {
-    let mut answers = blank_answers();
-    let told = answers_passing(table, x, y, k, &mut answers);
+    let told = answers_passing(table, x, y, k, numbers, xs, ys, bars, kept, answers);
     let given = told.given;
     let Given::Done = given else {
         return 0;
@@ -42,9 +52,27 @@ pub(crate) fn count_all(table: &[i32], xs: &[i32], ys: &[i32], k: i32, counts: &
         ⌝ }
 {
     let n = lesser(lesser(xs.len(), ys.len()), counts.len());
+    // The rows that the queries write on, made once for all places.
+    let mut numbers = [0u32; Table::MOST];
+    let mut across = [0u64; Table::MOST];
+    let mut along = [0u64; Table::MOST];
+    let mut bars = [0u64; Table::MOST];
+    let mut kept = [0u32; Table::MOST];
+    let mut answers = [0u32; Table::MOST];
     let mut i = 0;
     while i < n {
-        counts[i] = count_at(table, xs[i], ys[i], k);
+        counts[i] = count_at(
+            table,
+            xs[i],
+            ys[i],
+            k,
+            &mut numbers,
+            &mut across,
+            &mut along,
+            &mut bars,
+            &mut kept,
+            &mut answers,
+        );
         i += 1;
     }
 }

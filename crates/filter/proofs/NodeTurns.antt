@@ -7,7 +7,7 @@ use mathlib.Core.List.{List, map}
 use lib.ListN.{length, take, getD}
 use lib.Seq.{take-all}
 use Rattle.grid.specs.declared.place.Place.{Place}
-use Rattle.grid.specs.Place.{RectOnGrid, leastSquare}
+use Rattle.grid.specs.Place.{Upright, leastSquare}
 use Rattle.order.specs.Lists.{All}
 use Rattle.order.specs.Order.{rowOf}
 use Rattle.order.proofs.Lists.{all-at, all-then}
@@ -36,7 +36,7 @@ pub record Turn (Q : Entry → Type 0) (q : Place) (k : ℕ) (f : Entry → Foun
   pub good : Q e
   pub kept : Kept q r (s .candidates)
   pub ready : Ready q (f e) r s
-  pub done : (r′ : Rows) (s′ : Seen) → Noted q (f e (foundIn r s)) r r′ s′ → Noted q (each f (take (i + 1) (nearestFirst q k es)) start) first r′ s′
+  pub done : (r′ : Rows) (s′ : Seen) → Noted q (f e (foundIn q r s)) r r′ s′ → Noted q (each f (take (i + 1) (nearestFirst q k es)) start) first r′ s′
 
 module _ {Q : Entry → Type 0} {q : Place} {k : ℕ} {f : Entry → Found → Found} {es : List Entry} {start : Found} {first : Rows} (t : Turns Q q k f es start first) where
   -- at the entry that the row says
@@ -62,7 +62,7 @@ abbrev pub IsPoint : Entry → Type 0
 IsPoint e = isPoint e ≡ true
 
 pub leaf-turns : (q : Place) (k : ℕ) (es : List Entry) (first : Rows) (s : Seen) → All IsPoint es
-    → Ready q (each (visited q k) (nearestFirst q k es)) first s → Turns IsPoint q k (visited q k) es (foundIn first s) first
+    → Ready q (each (visited q k) (nearestFirst q k es)) first s → Turns IsPoint q k (visited q k) es (foundIn q first s) first
 leaf-turns q k es first s points r = record {
   all = points;
   turning = record {
@@ -101,12 +101,12 @@ module _ (ws : Words) (s : ℕ) where
   passable-zero zero e h = h .1
   passable-zero (suc l) e h = absurd (omega arith)
 
-  pub passable-above : (l : ℕ) → 0 < l → Passable l ws s → All (λ e. RectOnGrid (e .rect) × Passable (l - 1) ws (e .reference)) (entriesAt ws s)
-  passable-above = by-pred (λ l j. Passable l ws s → All (λ e. RectOnGrid (e .rect) × Passable j ws (e .reference)) (entriesAt ws s)) (λ l h. h .1)
+  pub passable-above : (l : ℕ) → 0 < l → Passable l ws s → All (λ e. Upright (e .rect) × Passable (l - 1) ws (e .reference)) (entriesAt ws s)
+  passable-above = by-pred (λ l j. Passable l ws s → All (λ e. Upright (e .rect) × Passable j ws (e .reference)) (entriesAt ws s)) (λ l h. h .1)
 
 -- a child's entry: its box is on the grid, and from its slot the walk can go on
 abbrev pub IsChild : Words → ℕ → Entry → Type 0
-IsChild ws l e = RectOnGrid (e .rect) × Passable l ws (e .reference)
+IsChild ws l e = Upright (e .rect) × Passable l ws (e .reference)
 
 -- the walk from the slot s of level l is ready
 module _ (q : Place) (k : ℕ) (ws : Words) (s l : ℕ) (first : Rows) (seen : Seen) (ready : Ready q (walk q k l ws s) first seen) where
@@ -114,12 +114,12 @@ module _ (q : Place) (k : ℕ) (ws : Words) (s l : ℕ) (first : Rows) (seen : S
   leaf-ready z = record {
     grid = ready .grid;
     kept = ready .kept;
-    room = rw (← walk-zero q k ws s l z (foundIn first seen)) (ready .room);
-    opened = rw (← walk-zero q k ws s l z (foundIn first seen)) (ready .opened);
+    room = rw (← walk-zero q k ws s l z (foundIn q first seen)) (ready .room);
+    opened = rw (← walk-zero q k ws s l z (foundIn q first seen)) (ready .opened);
   }
 
   pub above-turns : 0 < l → Passable l ws s
-      → Turns (IsChild ws (l - 1)) q k (entered q k (walk q k (l - 1) ws)) (entriesAt ws s) (withOpened q k (foundIn first seen)) first
+      → Turns (IsChild ws (l - 1)) q k (entered q k (walk q k (l - 1) ws)) (entriesAt ws s) (withOpened q k (foundIn q first seen)) first
   above-turns up pass =
       let f = entered q k (walk q k (l - 1) ws) in
       let es = entriesAt ws s in
@@ -131,7 +131,7 @@ module _ (q : Place) (k : ℕ) (ws : Words) (s l : ℕ) (first : Rows) (seen : S
           grows = entered-grows q k (l - 1) ws;
           keeps = sorted-all q k (Keeps f) es (all-then (IsChild ws (l - 1)) (Keeps f) (entered-keeps q k (l - 1) ws) es children);
           points = ready .kept .points;
-          room = rw (← walk-above q k ws s l up (foundIn first seen)) (ready .room);
-          opened = rw (← walk-above q k ws s l up (foundIn first seen)) (ready .opened);
+          room = rw (← walk-above q k ws s l up (foundIn q first seen)) (ready .room);
+          opened = rw (← walk-above q k ws s l up (foundIn q first seen)) (ready .opened);
         };
       }

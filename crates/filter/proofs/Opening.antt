@@ -7,7 +7,7 @@ use lib.ListN.{length}
 use borrow.Author.Tests.{eqb-true}
 use Rattle.words.specs.Word.{IsWord}
 use Rattle.grid.specs.declared.place.Place.{Place}
-use Rattle.grid.specs.Place.{RectOnGrid}
+use Rattle.grid.specs.Place.{Upright}
 use Rattle.grid.specs.Site.{Site, placeOf}
 use Rattle.grid.proofs.Site.{SiteOnGrid, place-grid}
 use Rattle.order.specs.Lists.{All}
@@ -46,9 +46,9 @@ use Rattle.filter.proofs.Turns.{room-less}
 pub passable-tree : {lo : ℕ} (l : ℕ) (t : Tree l) (ws : Words) → Good lo l t → Stored l ws t → Passable l ws (topOf l t)
 passable-tree zero t ws g st = (top-inside g, rw (stored-entries ws {t = t} g st) (g .points))
 passable-tree (suc l) t ws g st =
-    let P : Entry → Type 0 = λ e. RectOnGrid (e .rect) × Passable l ws (e .reference) in
+    let P : Entry → Type 0 = λ e. Upright (e .rect) × Passable l ws (e .reference) in
     let child : (c : Tree l) → Good LEAST l c → Stored l ws c → P (entryOfTree l c) = λ c h s.
-    (entry-upright (omega arith) h .grid, rw (entry-reference l c) (passable-tree l c ws h s)) in (
+    (entry-upright (omega arith) h, rw (entry-reference l c) (passable-tree l c ws h s)) in (
       top-inside g,
       rw (stored-entries ws {t = t} g st)
           (all-map P (entryOfTree l) (t .items)
@@ -60,14 +60,14 @@ passable-tree (suc l) t ws g st =
 abbrev pub none : Seen
 none = record { candidates = 0; opened = 0 }
 
-pub found-none : (r : Rows) → foundIn r none ≡ nothing
+pub found-none : (q : Place) (r : Rows) → foundIn q r none ≡ nothing
 unfolding listed
-found-none r = refl
+found-none q r = refl
 
 pub kept-none : (q : Place) (r : Rows) → Kept q r 0
 unfolding listed laidIn
 kept-none q r = record {
-  room = record { numbers = omega arith; xs = omega arith; ys = omega arith; squares = omega arith };
+  room = record { numbers = omega arith; xs = omega arith; ys = omega arith; bars = omega arith };
   points = tt;
   same = refl;
 }
@@ -112,9 +112,9 @@ module _ (ws : Words) (long : length ws ≡ LENGTH) (fits : All IsWord ws) (w : 
 
       module _ (q : Site) (g : SiteOnGrid q) (k : ℕ) (p : Place) (isPlace : p ≡ placeOf q) (r : Rows) where
         -- the walk from the root is the whole
-        root-walk : walk p k level ws root (foundIn r none) ≡ found ws q k
+        root-walk : walk p k level ws root (foundIn p r none) ≡ found ws q k
         root-walk =
-            rw (isPlace, at-level, at-root, found-none r)
+            rw (isPlace, at-level, at-root, found-none (placeOf q) r)
             (sym (found-walk ws (held .level) (held .tree) (held .holds) (held .sound) q g k))
 
         pub root-ready : Room (pointsOf ws) r → Ready p (walk p k level ws root) r none
@@ -135,7 +135,7 @@ module _ (ws : Words) (long : length ws ≡ LENGTH) (fits : All IsWord ws) (w : 
               ));
         }
 
-        pub root-noted : {after : Rows} {s : Seen} → Noted p (walk p k level ws root (foundIn r none)) r after s → Noted (placeOf q) (found ws q k) r after s
+        pub root-noted : {after : Rows} {s : Seen} → Noted p (walk p k level ws root (foundIn p r none)) r after s → Noted (placeOf q) (found ws q k) r after s
         root-noted n = rw (← isPlace, ← root-walk) n
 
   pub empty-noted : (q : Site) (k : ℕ) (r : Rows) → isEmpty ws ≡ true → Noted (placeOf q) (found ws q k) r r none

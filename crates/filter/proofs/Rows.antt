@@ -1,29 +1,28 @@
--- Laws of the four rows of the candidate list, and of counts over places. Assumes nothing.
-use Prim.Native.Nat.{ℕ, suc, _+_, _-_, _≤_, _<_, _^_}
+-- Laws of the four rows of the candidate list: what is laid in them is read back, and the candidates kept there stand as the tests want them. Assumes nothing.
+use Prim.Native.Nat.{ℕ, suc, _+_, _-_, _≤_, _<_}
 use native.Mathlib.Omega.{arith}
-use mathlib.Core.Path.{_≡_, refl, sym, ap, _∙_}
-use mathlib.Core.Bool.{true}
+use mathlib.Core.Path.{_≡_, refl, sym, ap, _∙_, subst}
+use mathlib.Core.Bool.{true, Bool}
 use mathlib.Core.List.{List, [], _∷_, _++_, map, map-append, append-assoc}
-use lib.IntN.{pos}
 use lib.ListN.{length, getD, drop, set, length-append, length-drop, length-map, List·getD-append}
 use lib.Seq.{drop-append-add, drop-drop, drop-cons, set-at}
-use Rattle.words.specs.Word.{stepsOf, wordOf, natOf}
 use Rattle.grid.specs.declared.place.Place.{Place}
-use Rattle.grid.specs.Place.{dist², spotOf}
-use Rattle.words.proofs.Words.{steps-word}
+use Rattle.grid.specs.Place.{spotOf, PlaceOnGrid}
 use Rattle.grid.proofs.Rects.{place-ext}
-use Rattle.order.specs.Lists.{All}
+use Rattle.order.specs.Lists.{All, count}
 use Rattle.filter.specs.Query.{laidOver}
 use Rattle.filter.specs.Walk.{spotIn}
 use Rattle.filter.specs.Rows.{Rows, entryIn, listed, laidIn, Room, Kept}
-use Rattle.order.proofs.Lists.{map-at, all-at, all-then}
-use Rattle.order.proofs.Order.{pick-all, up-all}
+use Rattle.order.proofs.Lists.{map-at, all-at, all-then, count-map}
+use Rattle.order.proofs.Order.{pick-all, up-all, up-at, up-length}
 use Rattle.table.specs.declared.node.Entry.{Entry}
 use Rattle.table.specs.Page.{blankEntry}
 use Rattle.table.specs.Stations.{isPoint}
 use Rattle.table.proofs.Nodes.{entry-ext}
 use Rattle.rules.proofs.Reading.{Point, point, point-spot}
 use Rattle.order.specs.Order.{upFrom}
+use Rattle.axis.specs.Axis.{OnGrid}
+use Rattle.leads.specs.Leads.{fromQ, backTo, placeIn, barOf, Standing}
 
 pub map-same : {A : Type 0} (xs : List A) → map (λ x. x) xs ≡ xs
 map-same [] = refl
@@ -79,24 +78,6 @@ module _ {A : Type 0} where
 
 -- ---- the four rows
 
-pub rows-ext : {r s : Rows} → r .numbers ≡ s .numbers → r .xs ≡ s .xs → r .ys ≡ s .ys → r .squares ≡ s .squares → r ≡ s
-rows-ext n x y z = λ i. record { numbers = n i; xs = x i; ys = y i; squares = z i }
-
-pub rows-again : (q : Place) (cs ds : List Entry) (r : Rows) → length cs ≤ length ds → laidIn q ds (laidIn q cs r) ≡ laidIn q ds r
-unfolding laidIn
-rows-again q cs ds r h =
-    rows-ext (row-again _ cs ds (r .numbers) h) (row-again _ cs ds (r .xs) h) (row-again _ cs ds (r .ys) h) (row-again _ cs ds (r .squares) h)
-
-pub rows-room : (q : Place) (cs : List Entry) (r : Rows) (n : ℕ) → length cs ≤ n → Room n r → Room n (laidIn q cs r)
-unfolding laidIn
-rows-room q cs r n h room = record {
-  numbers = omega (arith, room .numbers, row-length (λ (e : Entry). pos (e .reference)) cs (r .numbers) (omega (arith, room .numbers)));
-  xs = omega (arith, room .xs, row-length (λ (e : Entry). wordOf (e .rect .x .low)) cs (r .xs) (omega (arith, room .xs)));
-  ys = omega (arith, room .ys, row-length (λ (e : Entry). wordOf (e .rect .y .low)) cs (r .ys) (omega (arith, room .ys)));
-  squares = omega (arith, room .squares, row-length (λ (e : Entry). dist² q (spotIn e)) cs (r .squares) (omega (arith, room .squares)));
-}
-
--- what is read where candidates were laid are the candidates
 pub map-both : {A B : Type 0} (f g : A → B) (xs : List A) → All (λ x. f x ≡ g x) xs → map f xs ≡ map g xs
 map-both f g [] h = refl
 map-both f g (x ∷ xs) h =
@@ -104,33 +85,96 @@ map-both f g (x ∷ xs) h =
     let d = map-both f g xs (h .1) in
     cc
 
-pub entry-back : (q : Place) (cs : List Entry) (r : Rows) → All Point cs → (i : ℕ) → i < length cs → entryIn (laidIn q cs r) i ≡ getD cs i blankEntry
+pub rows-ext : {r s : Rows} → r .numbers ≡ s .numbers → r .xs ≡ s .xs → r .ys ≡ s .ys → r .bars ≡ s .bars → r ≡ s
+rows-ext n x y b = λ i. record { numbers = n i; xs = x i; ys = y i; bars = b i }
+
+pub rows-again : (q : Place) (cs ds : List Entry) (r : Rows) → length cs ≤ length ds → laidIn q ds (laidIn q cs r) ≡ laidIn q ds r
 unfolding laidIn
-entry-back q cs r ps i h =
+rows-again q cs ds r h =
+    rows-ext (row-again _ cs ds (r .numbers) h) (row-again _ cs ds (r .xs) h) (row-again _ cs ds (r .ys) h) (row-again _ cs ds (r .bars) h)
+
+pub rows-room : (q : Place) (cs : List Entry) (r : Rows) (n : ℕ) → length cs ≤ n → Room n r → Room n (laidIn q cs r)
+unfolding laidIn
+rows-room q cs r n h room = record {
+  numbers = omega (arith, room .numbers, row-length (λ (e : Entry). e .reference) cs (r .numbers) (omega (arith, room .numbers)));
+  xs = omega (arith, room .xs, row-length (λ (e : Entry). fromQ (e .rect .x .low) (q .x)) cs (r .xs) (omega (arith, room .xs)));
+  ys = omega (arith, room .ys, row-length (λ (e : Entry). fromQ (e .rect .y .low) (q .y)) cs (r .ys) (omega (arith, room .ys)));
+  bars = omega (arith, room .bars, row-length (λ (e : Entry). barOf q (spotIn e)) cs (r .bars) (omega (arith, room .bars)));
+}
+
+-- ---- what is read where candidates were laid are the candidates
+
+back-from : {a q : ℕ} → OnGrid a → OnGrid q → backTo (fromQ a q) q ≡ a
+back-from g h = omega (arith, g, h)
+
+pub entry-back : (q : Place) (cs : List Entry) (r : Rows) → PlaceOnGrid q → All Point cs → (i : ℕ) → i < length cs
+    → entryIn q (laidIn q cs r) i ≡ getD cs i blankEntry
+unfolding laidIn
+entry-back q cs r g ps i h =
     let e = getD cs i blankEntry in
     let p : Point e = all-at Point cs i blankEntry h ps in
-    let sx : e .rect .x .low < 2 ^ 32 = omega (arith, p .x .grid) in
-    let sy : e .rect .y .low < 2 ^ 32 = omega (arith, p .y .grid) in
-    entry-ext (ap natOf (row-at (λ (e : Entry). pos (e .reference)) cs (r .numbers) blankEntry (pos 0) i h))
+    entry-ext (row-at (λ (e : Entry). e .reference) cs (r .numbers) blankEntry 0 i h)
     (ap spotOf
     (place-ext
-    (ap stepsOf (row-at (λ (e : Entry). wordOf (e .rect .x .low)) cs (r .xs) blankEntry (pos 0) i h) ∙ steps-word _ sx)
-    (ap stepsOf (row-at (λ (e : Entry). wordOf (e .rect .y .low)) cs (r .ys) blankEntry (pos 0) i h) ∙ steps-word _ sy))
+    (ap (λ (a : ℕ). backTo a (q .x)) (row-at (λ (e : Entry). fromQ (e .rect .x .low) (q .x)) cs (r .xs) blankEntry 0 i h) ∙ back-from (p .x .grid) (g .x))
+    (ap (λ (a : ℕ). backTo a (q .y)) (row-at (λ (e : Entry). fromQ (e .rect .y .low) (q .y)) cs (r .ys) blankEntry 0 i h) ∙ back-from (p .y .grid) (g .y)))
     ∙ sym (point-spot p))
 
-pub listed-back : (q : Place) (cs : List Entry) (r : Rows) → All Point cs → listed (laidIn q cs r) (length cs) ≡ cs
+pub listed-back : (q : Place) (cs : List Entry) (r : Rows) → PlaceOnGrid q → All Point cs → listed q (laidIn q cs r) (length cs) ≡ cs
 unfolding listed
-listed-back q cs r ps =
-    map-both (entryIn (laidIn q cs r)) (λ i. getD cs i blankEntry) (upFrom 0 (length cs))
-    (up-all (λ i. entryIn (laidIn q cs r) i ≡ getD cs i blankEntry) 0 (length cs) (λ i l u. entry-back q cs r ps i (omega arith)))
+listed-back q cs r g ps =
+    map-both (entryIn q (laidIn q cs r)) (λ i. getD cs i blankEntry) (upFrom 0 (length cs))
+    (up-all (λ i. entryIn q (laidIn q cs r) i ≡ getD cs i blankEntry) 0 (length cs) (λ i l u. entry-back q cs r g ps i (omega arith)))
     ∙ pick-all cs blankEntry
 
 -- so they are kept
-pub rows-kept : (q : Place) (cs : List Entry) (r : Rows) → All (λ e. isPoint e ≡ true) cs → Room (length cs) r → Kept q (laidIn q cs r) (length cs)
-rows-kept q cs r ps room =
-    let b : listed (laidIn q cs r) (length cs) ≡ cs = listed-back q cs r (all-then (λ e. isPoint e ≡ true) Point point cs ps) in
+pub rows-kept : (q : Place) (cs : List Entry) (r : Rows) → PlaceOnGrid q → All (λ e. isPoint e ≡ true) cs → Room (length cs) r
+    → Kept q (laidIn q cs r) (length cs)
+rows-kept q cs r g ps room =
+    let b : listed q (laidIn q cs r) (length cs) ≡ cs = listed-back q cs r g (all-then (λ e. isPoint e ≡ true) Point point cs ps) in
     record {
       room = rows-room q cs r (length cs) (omega arith) room;
       points = rw b ps;
       same = rw b (rows-again q cs cs r (omega arith));
     }
+
+-- ---- candidates that are kept
+
+pub listed-length : (q : Place) (r : Rows) (m : ℕ) → length (listed q r m) ≡ m
+unfolding listed
+listed-length q r m = length-map (upFrom 0 m) (entryIn q r) ∙ up-length 0 m
+
+pub listed-at : (q : Place) (r : Rows) (m i : ℕ) → i < m → getD (listed q r m) i blankEntry ≡ entryIn q r i
+unfolding listed
+listed-at q r m i h = map-at (entryIn q r) (upFrom 0 m) 0 blankEntry i (omega (arith, up-length 0 m)) ∙ ap (entryIn q r) (up-at 0 m i h ∙ omega arith)
+
+-- a test of places, counted over them
+pub listed-count : (q : Place) (r : Rows) (m : ℕ) (P : Place → Bool)
+    → count (λ c. P (spotIn c)) (listed q r m) ≡ count (λ i. P (placeIn q (r .xs) (r .ys) i)) (upFrom 0 m)
+unfolding listed
+listed-count q r m P = count-map (λ c. P (spotIn c)) (entryIn q r) (upFrom 0 m)
+
+-- each is a point
+pub kept-point : {q : Place} {r : Rows} {m : ℕ} → Kept q r m → (i : ℕ) → i < m → isPoint (entryIn q r i) ≡ true
+kept-point {q} {r} {m} k i h =
+    subst (λ (e : Entry). isPoint e ≡ true) (listed-at q r m i h)
+    (all-at (λ (e : Entry). isPoint e ≡ true) (listed q r m) i blankEntry (omega (arith, listed-length q r m)) (k .points))
+
+-- and its bar is in its row
+kept-bar : {q : Place} {r : Rows} {m : ℕ} → Kept q r m → (i : ℕ) → i < m → getD (r .bars) i 0 ≡ barOf q (spotIn (entryIn q r i))
+unfolding laidIn
+kept-bar {q} {r} {m} k i h =
+    let w : Entry → ℕ = λ e. barOf q (spotIn e) in
+    ap (λ (s : Rows). getD (s .bars) i 0) (sym (k .same))
+    ∙ row-at w (listed q r m) (r .bars) blankEntry 0 i (omega (arith, listed-length q r m))
+    ∙ ap w (listed-at q r m i h)
+
+-- so they stand in the rows as the tests want them
+pub kept-standing : {q : Place} {r : Rows} {m : ℕ} → PlaceOnGrid q → Kept q r m → Standing q (r .xs) (r .ys) (r .bars) m
+kept-standing {q} {r} {m} g k = record {
+  room-x = k .room .xs;
+  room-y = k .room .ys;
+  room-bar = k .room .bars;
+  grid = λ i h. let p : Point (entryIn q r i) = point (entryIn q r i) (kept-point k i h) in record { x = p .x .grid; y = p .y .grid };
+  bar = kept-bar k;
+}

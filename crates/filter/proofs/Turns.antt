@@ -8,7 +8,7 @@ use mathlib.Core.List.{List, [], _∷_, _++_}
 use lib.ListN.{length, take, drop, getD, length-append, take-append-drop}
 use lib.Seq.{take-suc}
 use Rattle.grid.specs.declared.place.Place.{Place}
-use Rattle.grid.specs.Place.{PlaceOnGrid, RectOnGrid, leastSquare}
+use Rattle.grid.specs.Place.{PlaceOnGrid, Upright, leastSquare}
 use Rattle.order.specs.Lists.{All}
 use Rattle.order.proofs.Lists.{by-bool, all-perm, all-append, all-take, all-then}
 use Rattle.order.proofs.Order.{sort-perm}
@@ -103,11 +103,11 @@ module _ (q : Place) (k : ℕ) where
   walk-points (suc l) ws s h now p =
       each-points (entered q k (walk q k l ws)) (nearestFirst q k (entriesAt ws s))
       (sorted-all (Keeps (entered q k (walk q k l ws))) (entriesAt ws s)
-      (all-then (λ e. RectOnGrid (e .rect) × Passable l ws (e .reference)) (Keeps (entered q k (walk q k l ws)))
+      (all-then (λ e. Upright (e .rect) × Passable l ws (e .reference)) (Keeps (entered q k (walk q k l ws)))
       (λ e g. enter-keeps (walk q k l ws) e (walk-points l ws (e .reference) (g .1))) (entriesAt ws s) (h .1)))
       (withOpened q k now) p
 
-  pub entered-keeps : (l : ℕ) (ws : Words) (e : Entry) → RectOnGrid (e .rect) × Passable l ws (e .reference) → Keeps (entered q k (walk q k l ws)) e
+  pub entered-keeps : (l : ℕ) (ws : Words) (e : Entry) → Upright (e .rect) × Passable l ws (e .reference) → Keeps (entered q k (walk q k l ws)) e
   entered-keeps l ws e g = enter-keeps (walk q k l ws) e (walk-points l ws (e .reference) (g .1))
 
 -- ---- turn by turn
@@ -121,24 +121,24 @@ room-less h room = record {
   numbers = omega (arith, room .numbers);
   xs = omega (arith, room .xs);
   ys = omega (arith, room .ys);
-  squares = omega (arith, room .squares);
+  bars = omega (arith, room .bars);
 }
 
 -- what is noted is what the rows say
-module _ {q : Place} {a : Found} {before after : Rows} {s : Seen} (n : Noted q a before after s) (ps : Points a) where
+module _ {q : Place} {a : Found} {before after : Rows} {s : Seen} (n : Noted q a before after s) (g : PlaceOnGrid q) (ps : Points a) where
   found-ext : {x y : Found} → x .candidates ≡ y .candidates → x .opened ≡ y .opened → x ≡ y
   found-ext c o = λ i. record { candidates = c i; opened = o i }
 
-  pub noted-found : foundIn after s ≡ a
+  pub noted-found : foundIn q after s ≡ a
   noted-found =
       found-ext
-      (ap (λ (r : Rows). listed r (s .candidates)) (n .rows)
-      ∙ ap (listed (laidIn q (a .candidates) before)) (n .candidates)
-      ∙ listed-back q (a .candidates) before (all-then (λ e. isPoint e ≡ true) Point point (a .candidates) ps))
+      (ap (λ (r : Rows). listed q r (s .candidates)) (n .rows)
+      ∙ ap (listed q (laidIn q (a .candidates) before)) (n .candidates)
+      ∙ listed-back q (a .candidates) before g (all-then (λ e. isPoint e ≡ true) Point point (a .candidates) ps))
       (n .opened)
 
   pub noted-kept : Room (length (a .candidates)) before → Kept q after (s .candidates)
-  noted-kept room = rw (n .rows, n .candidates) (rows-kept q (a .candidates) before ps room)
+  noted-kept room = rw (n .rows, n .candidates) (rows-kept q (a .candidates) before g ps room)
 
 pub noted-room : {q : Place} {a : Found} {before after : Rows} {s : Seen} → Noted q a before after s → (m : ℕ) → length (a .candidates) ≤ m → Room m before → Room m after
 noted-room {q} {a} {before} n m h room = rw (n .rows) (rows-room q (a .candidates) before m h room)
@@ -177,18 +177,18 @@ module _ {f : Entry → Found → Found} {es : List Entry} {start : Found} {firs
 
   -- before turn i
   module _ (i : ℕ) {r : Rows} {s : Seen} (n : Noted q (each f (take i es) start) first r s) where
-    turn-found : foundIn r s ≡ each f (take i es) start
-    turn-found = noted-found n (turn-points i)
+    turn-found : foundIn q r s ≡ each f (take i es) start
+    turn-found = noted-found n (t .grid) (turn-points i)
 
     pub turn-kept : Kept q r (s .candidates)
-    turn-kept = noted-kept n (turn-points i) (room-less (turn-grows i .candidates) (t .room))
+    turn-kept = noted-kept n (t .grid) (turn-points i) (room-less (turn-grows i .candidates) (t .room))
 
     module _ (h : i < length es) (e : Entry) (taken : e ≡ getD es i blankEntry) where
-      turn-one : f e (foundIn r s) ≡ each f (take (i + 1) es) start
+      turn-one : f e (foundIn q r s) ≡ each f (take (i + 1) es) start
       turn-one = rw (taken, turn-found) (sym (turn-next i h))
 
       -- what the turn finds is no more than what all find
-      turn-fits : Grows (f e (foundIn r s)) (each f es start)
+      turn-fits : Grows (f e (foundIn q r s)) (each f es start)
       turn-fits = rw turn-one (turn-grows (i + 1))
 
       pub turn-ready : Ready q (f e) r s
@@ -200,5 +200,5 @@ module _ {f : Entry → Found → Found} {es : List Entry} {start : Found} {firs
       }
 
       -- after it
-      pub turn-done : {r′ : Rows} {s′ : Seen} → Noted q (f e (foundIn r s)) r r′ s′ → Noted q (each f (take (i + 1) es) start) first r′ s′
-      turn-done m = rw (← turn-one) (noted-then n (rw (← turn-found) (t .grows e (foundIn r s))) m)
+      pub turn-done : {r′ : Rows} {s′ : Seen} → Noted q (f e (foundIn q r s)) r r′ s′ → Noted q (each f (take (i + 1) es) start) first r′ s′
+      turn-done m = rw (← turn-one) (noted-then n (rw (← turn-found) (t .grows e (foundIn q r s))) m)

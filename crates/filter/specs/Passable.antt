@@ -1,8 +1,8 @@
--- What a walk asks of the table: each slot that it may open is a slot, each box and each point lies on the grid. Every well-formed table is so.
+-- What a walk asks of the table: each slot that it may open is a slot, each box stands upright on the grid, and each point lies on it. Every well-formed table is so.
 use Prim.Native.Nat.{ℕ, zero, suc, _<_}
 use mathlib.Core.Path.{_≡_}
 use mathlib.Core.Bool.{true}
-use Rattle.grid.specs.Place.{RectOnGrid}
+use Rattle.grid.specs.Place.{Upright}
 use Rattle.order.specs.Lists.{All}
 use Rattle.figures.specs.Figures.{SLOTS}
 use Rattle.table.specs.Words.{Words}
@@ -12,4 +12,4 @@ use Rattle.table.specs.Stations.{isPoint}
 -- from the node in slot s, of level l, downwards
 abbrev pub Passable : ℕ → Words → ℕ → Type 0
 Passable zero ws s = (s < SLOTS) × All (λ e. isPoint e ≡ true) (entriesAt ws s)
-Passable (suc l) ws s = (s < SLOTS) × All (λ e. RectOnGrid (e .rect) × Passable l ws (e .reference)) (entriesAt ws s)
+Passable (suc l) ws s = (s < SLOTS) × All (λ e. Upright (e .rect) × Passable l ws (e .reference)) (entriesAt ws s)

@@ -8,12 +8,11 @@ ghost use Rattle.rules.specs.Rules.{Passing};
 ghost use Rattle.filter.specs.Query.{found};
 ghost use Rattle.filter.specs.Rows.{rows, Room, Noted};
 use crate::seen::Seen;
+use crate::site::place_of;
 use crate::walk::walk;
-use grid::place::Place;
 use table::slot::level_at;
 use table::slot::points_of;
 use table::slot::root_of;
-use words::border::steps;
 
 // From the root down; the empty table has no root to open.
 pub fn find(
@@ -21,28 +20,25 @@ pub fn find(
     x: i32,
     y: i32,
     k: usize,
-    numbers: &mut [i32],
-    xs: &mut [i32],
-    ys: &mut [i32],
-    squares: &mut [u64],
+    numbers: &mut [u32],
+    xs: &mut [u64],
+    ys: &mut [u64],
+    bars: &mut [u64],
 ) -> Seen
     requires { ⌜ Passing (now table) ⌝ }
     requires { ⌜ (onGrid x ≡ true) × (onGrid y ≡ true) ⌝ }
-    requires { ⌜ Room (pointsOf (now table)) (rows (now numbers) (now xs) (now ys) (now squares)) ⌝ }
+    requires { ⌜ Room (pointsOf (now table)) (rows (now numbers) (now xs) (now ys) (now bars)) ⌝ }
     ensures { λ r. ⌜
         Noted (placeOf (record { x = x; y = y })) (found (now (table .entry)) (record { x = x; y = y }) k)
-        (rows (now (numbers .entry)) (now (xs .entry)) (now (ys .entry)) (now (squares .entry)))
-        (rows (now (numbers .exit)) (now (xs .exit)) (now (ys .exit)) (now (squares .exit))) r ⌝ }
+        (rows (now (numbers .entry)) (now (xs .entry)) (now (ys .entry)) (now (bars .entry)))
+        (rows (now (numbers .exit)) (now (xs .exit)) (now (ys .exit)) (now (bars .exit))) r ⌝ }
 {
     let none = Seen::none();
     if points_of(table) == 0 {
         return none;
     }
-    let q = Place {
-        x: steps(x),
-        y: steps(y),
-    };
+    let q = place_of(x, y);
     let root = root_of(table);
     let level = level_at(table, root);
-    walk(table, root, level, q, k, numbers, xs, ys, squares, none)
+    walk(table, root, level, q, k, numbers, xs, ys, bars, none)
 }

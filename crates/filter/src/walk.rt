@@ -11,10 +11,10 @@ ghost use Rattle.filter.specs.Walk.{each, nearestFirst, visited, walk as
 ghost use Rattle.filter.specs.Rows.{rows, Ready, Went};
 ghost use Rattle.filter.specs.Passable.{Passable};
 use crate::candidate::visit;
-use crate::discard::hides_box;
 use crate::nearest::nearest;
 use crate::seen::Seen;
 use grid::place::Place;
+use leads::count::all_as_near;
 use table::slot::count_at;
 use table::slot::entry_at;
 
@@ -24,18 +24,18 @@ fn visit_leaf(
     slot: usize,
     q: Place,
     k: usize,
-    numbers: &mut [i32],
-    xs: &mut [i32],
-    ys: &mut [i32],
-    squares: &mut [u64],
+    numbers: &mut [u32],
+    xs: &mut [u64],
+    ys: &mut [u64],
+    bars: &mut [u64],
     seen: Seen,
 ) -> Seen
     requires { ⌜ (length (now table) ≡ LENGTH) × (slot < SLOTS) × All (λ e. isPoint e ≡ true) (entriesAt (now table) slot) ⌝ }
-    requires { ⌜ Ready q (each (visited q k) (nearestFirst q k (entriesAt (now table) slot))) (rows (now numbers) (now xs) (now ys) (now squares)) seen ⌝ }
+    requires { ⌜ Ready q (each (visited q k) (nearestFirst q k (entriesAt (now table) slot))) (rows (now numbers) (now xs) (now ys) (now bars)) seen ⌝ }
     ensures { λ r. ⌜
         Went q (each (visited q k) (nearestFirst q k (entriesAt (now (table .entry)) slot)))
-        (rows (now (numbers .entry)) (now (xs .entry)) (now (ys .entry)) (now (squares .entry))) seen
-        (rows (now (numbers .exit)) (now (xs .exit)) (now (ys .exit)) (now (squares .exit))) r ⌝ }
+        (rows (now (numbers .entry)) (now (xs .entry)) (now (ys .entry)) (now (bars .entry))) seen
+        (rows (now (numbers .exit)) (now (xs .exit)) (now (ys .exit)) (now (bars .exit))) r ⌝ }
 {
     let row = nearest(table, slot, q);
     let count = count_at(table, slot);
@@ -44,7 +44,7 @@ fn visit_leaf(
     while i < count {
         let at = row[i];
         let e = entry_at(table, slot, at);
-        so_far = visit(e, q, k, numbers, xs, ys, squares, so_far);
+        so_far = visit(e, q, k, numbers, xs, ys, bars, so_far);
         i += 1;
     }
     so_far
@@ -57,22 +57,22 @@ pub fn walk(
     level: usize,
     q: Place,
     k: usize,
-    numbers: &mut [i32],
-    xs: &mut [i32],
-    ys: &mut [i32],
-    squares: &mut [u64],
+    numbers: &mut [u32],
+    xs: &mut [u64],
+    ys: &mut [u64],
+    bars: &mut [u64],
     seen: Seen,
 ) -> Seen
     requires { ⌜ (length (now table) ≡ LENGTH) × Passable level (now table) slot ⌝ }
-    requires { ⌜ Ready q (walkOf q k level (now table) slot) (rows (now numbers) (now xs) (now ys) (now squares)) seen ⌝ }
+    requires { ⌜ Ready q (walkOf q k level (now table) slot) (rows (now numbers) (now xs) (now ys) (now bars)) seen ⌝ }
     ensures { λ r. ⌜
         Went q (walkOf q k level (now (table .entry)) slot)
-        (rows (now (numbers .entry)) (now (xs .entry)) (now (ys .entry)) (now (squares .entry))) seen
-        (rows (now (numbers .exit)) (now (xs .exit)) (now (ys .exit)) (now (squares .exit))) r ⌝ }
+        (rows (now (numbers .entry)) (now (xs .entry)) (now (ys .entry)) (now (bars .entry))) seen
+        (rows (now (numbers .exit)) (now (xs .exit)) (now (ys .exit)) (now (bars .exit))) r ⌝ }
 {
     let mut so_far = seen.opening();
     if level == 0 {
-        return visit_leaf(table, slot, q, k, numbers, xs, ys, squares, so_far);
+        return visit_leaf(table, slot, q, k, numbers, xs, ys, bars, so_far);
     }
     let below = level - 1;
     let row = nearest(table, slot, q);
@@ -82,11 +82,12 @@ pub fn walk(
         let at = row[i];
         let e = entry_at(table, slot, at);
         i += 1;
-        if hides_box(xs, ys, squares, so_far.candidates, e.rect, q, k) {
+        let near = all_as_near(xs, ys, bars, so_far.candidates, e.rect, q);
+        if k <= near {
             continue;
         }
         let child = e.reference;
-        so_far = walk(table, child, below, q, k, numbers, xs, ys, squares, so_far);
+        so_far = walk(table, child, below, q, k, numbers, xs, ys, bars, so_far);
     }
     so_far
 }

@@ -1,18 +1,17 @@
--- The laws of `asNear`, with the half-plane theorem. No other file of the repository, but the proofs of `is_as_near` and `is_led`, looks inside `asNear`. Assumes nothing.
-use mathlib.Core.Path.{_≡_, refl, sym, _∙_}
-use mathlib.Core.Logic.{⊎-elim}
+-- The laws of `asNear`, with the half-plane theorem, and the law of the one corner. No other file of the repository, but the proof of `is_as_near`, looks inside `asNear`. Assumes nothing.
+use mathlib.Core.Path.{_≡_, refl, sym}
+use mathlib.Core.Logic.{_⊎_, inl, inr}
 use mathlib.Core.Bool.{Bool, true, false, _&&_}
 use Prim.Native.Nat.{ℕ, _+_, _≤_, _<_}
 use native.Mathlib.Omega.{arith}
 use borrow.Author.Tests.{leb-true, le-leb, lt-leb}
-use lib.IntN.{ℤ, pos, negsuc, _+ℤ_}
 use Rattle.grid.specs.declared.place.Place.{Place}
 use Rattle.grid.specs.declared.rect.Rect.{Rect}
-use Rattle.grid.specs.Place.{Inside, dist², rectEndsOf}
-use Rattle.grid.specs.AsNear.{asNear, asNearTo, cornerAsNear, cornersAsNear, led, allAsNear}
-use Rattle.axis.specs.Axis.{endsOf, leadOf}
-use Rattle.axis.proofs.Axis.{worst, lead}
-use Rattle.axis.proofs.Signs.{Is, is-plus}
+use Rattle.grid.specs.Place.{Inside, dist²}
+use Rattle.grid.specs.AsNear.{asNear, asNearTo, cornerAsNear, cornersAsNear}
+use Rattle.grid.specs.Corner.{worstCorner, OneCorner}
+use Rattle.axis.specs.Axis.{InSpan}
+use Rattle.axis.proofs.Axis.{worst, worst-one}
 
 -- ---- what holds of it, and held of strictly nearer too
 
@@ -57,7 +56,7 @@ pub far-below : (d e : ℕ) → e < d → asNear d e ≡ false
 unfolding asNear
 far-below d e h = lt-leb d e h
 
--- ---- the half-plane theorem
+-- ---- the corner test
 
 and-left : (a b : Bool) → (a && b) ≡ true → a ≡ true
 and-left true b e = refl
@@ -68,6 +67,11 @@ and-right true b e = e
 and-right false b e =
     let z : _≡_ {A = ℕ} 0 1 = cc in
     absurd (omega arith)
+
+same : (a b : Bool) → (a ≡ true → b ≡ true) → (b ≡ true → a ≡ true) → a ≡ b
+same true b f g = sym (f refl)
+same false true f g = g refl
+same false false f g = refl
 
 -- the four corners, one by one
 record Corners (r : Rect) (c q : Place) : Type 0 where
@@ -88,74 +92,42 @@ corners r c q t =
       hh = and-right (cornerAsNear (r .x .high) (r .y .low) c q) _ hl-on;
     }
 
--- the corner test speaks for every place of the rectangle: each axis has a worst end, so one corner is worst
-pub half-plane : {p : Place} {r : Rect} (c q : Place) → cornersAsNear r c q ≡ true → Inside p r → asNearTo p c q ≡ true
-unfolding asNearTo dist²
-half-plane {p} {r} c q t i =
-    let k = corners r c q t in
-    let on-y = worst (c .y) (q .y) (r .y) (p .y) (i .y) in
-    ⊎-elim
-    (λ u. ⊎-elim (λ v. near-shift _ _ _ _ (omega arith) (k .ll)) (λ v. near-shift _ _ _ _ (omega arith) (k .lh)) on-y)
-    (λ u. ⊎-elim (λ v. near-shift _ _ _ _ (omega arith) (k .hl)) (λ v. near-shift _ _ _ _ (omega arith) (k .hh)) on-y)
-    (worst (c .x) (q .x) (r .x) (p .x) (i .x))
-
--- ---- the corner test by leads
-
-same : (a b : Bool) → (a ≡ true → b ≡ true) → (b ≡ true → a ≡ true) → a ≡ b
-same true b f g = sym (f refl)
-same false true f g = g refl
-same false false f g = refl
-
 joined : (r : Rect) (c q : Place) → Corners r c q → cornersAsNear r c q ≡ true
 unfolding cornersAsNear
 joined r c q k = rw (k .ll, k .lh, k .hl, k .hh) refl
 
--- a lead that is `more` less `less`, against d
-led-is : (d : ℕ) (z : ℤ) (more less : ℕ) → Is z more less → led d z ≡ asNear (d + less) more
-unfolding led
-led-is d (pos n) more less h = same _ _ (near-shift _ _ _ _ (omega arith)) (near-shift _ _ _ _ (omega arith))
-led-is d (negsuc n) more less h = sym (far-below (d + less) more (omega arith))
+-- the worst corner is one of the four
+worst-among : (r : Rect) (c q : Place) → Corners r c q → asNearTo (worstCorner r c q) c q ≡ true
+unfolding worstCorner
+worst-among r c q k = go (worst-one (r .x) (c .x) (q .x)) (worst-one (r .y) (c .y) (q .y))
+  where
+    go : {x y : ℕ} → (x ≡ r .x .low) ⊎ (x ≡ r .x .high) → (y ≡ r .y .low) ⊎ (y ≡ r .y .high) → cornerAsNear x y c q ≡ true
+    go (inl u) (inl v) = rw (u, v) (k .ll)
+    go (inl u) (inr v) = rw (u, v) (k .lh)
+    go (inr u) (inl v) = rw (u, v) (k .hl)
+    go (inr u) (inr v) = rw (u, v) (k .hh)
 
--- both leads together
-abbrev bothMore : (r : Rect) (c q : Place) → ℕ
-bothMore r c q = lead (r .x) (c .x) (q .x) .more + lead (r .y) (c .y) (q .y) .more
+-- and it speaks for every place of the rectangle
+worst-speaks : {p : Place} {r : Rect} (c q : Place) → Inside p r → asNearTo (worstCorner r c q) c q ≡ true → asNearTo p c q ≡ true
+unfolding asNearTo dist² worstCorner
+worst-speaks {p} {r} c q i =
+    near-shift _ _ _ _ (omega (arith, worst (c .x) (q .x) (r .x) (p .x) (i .x), worst (c .y) (q .y) (r .y) (p .y) (i .y)))
 
-abbrev bothLess : (r : Rect) (c q : Place) → ℕ
-bothLess r c q = lead (r .x) (c .x) (q .x) .less + lead (r .y) (c .y) (q .y) .less
+-- the half-plane theorem: the corner test speaks for every place of the rectangle
+pub half-plane : {p : Place} {r : Rect} (c q : Place) → cornersAsNear r c q ≡ true → Inside p r → asNearTo p c q ≡ true
+half-plane {r = r} c q t i = worst-speaks c q i (worst-among r c q (corners r c q t))
 
-both-led : (r : Rect) (c q : Place) → allAsNear (rectEndsOf r q) c q (dist² q c) ≡ asNear (dist² q c + bothLess r c q) (bothMore r c q)
-unfolding allAsNear
-both-led r c q =
-    let zx = leadOf (endsOf (r .x) (q .x)) (c .x) (q .x) in
-    let zy = leadOf (endsOf (r .y) (q .y)) (c .y) (q .y) in
-    let x = lead (r .x) (c .x) (q .x) in
-    let y = lead (r .y) (c .y) (q .y) in
-    led-is (dist² q c) (zx +ℤ zy) _ _ (is-plus zx zy (x .more) (x .less) (y .more) (y .less) (x .is) (y .is))
+-- 02 §3: the test at the worst corner is the test at all four
+pub one-corner : OneCorner
+one-corner r c q u = same _ _ (λ t. joined r c q (all t)) (λ t. worst-among r c q (corners r c q t))
+  where
+    at : (x y : ℕ) → InSpan x (r .x) → InSpan y (r .y) → asNearTo (worstCorner r c q) c q ≡ true → cornerAsNear x y c q ≡ true
+    at x y i j = worst-speaks c q (record { x = i; y = j })
 
--- the leads together are no less than the square: so is each corner's
-each-led : (r : Rect) (c q : Place) → asNear (dist² q c + bothLess r c q) (bothMore r c q) ≡ true → Corners r c q
-unfolding asNearTo dist²
-each-led r c q t =
-    let x = lead (r .x) (c .x) (q .x) in
-    let y = lead (r .y) (c .y) (q .y) in
-    record {
-      ll = near-shift _ _ _ _ (omega (arith, x .low, y .low)) t;
-      lh = near-shift _ _ _ _ (omega (arith, x .low, y .high)) t;
-      hl = near-shift _ _ _ _ (omega (arith, x .high, y .low)) t;
-      hh = near-shift _ _ _ _ (omega (arith, x .high, y .high)) t;
-    }
-
--- one corner's lead is the leads together
-one-led : (r : Rect) (c q : Place) → Corners r c q → asNear (dist² q c + bothLess r c q) (bothMore r c q) ≡ true
-unfolding asNearTo dist²
-one-led r c q k =
-    let on-y = lead (r .y) (c .y) (q .y) .one in
-    ⊎-elim
-    (λ u. ⊎-elim (λ v. near-shift _ _ _ _ (omega (arith, u, v)) (k .ll)) (λ v. near-shift _ _ _ _ (omega (arith, u, v)) (k .lh)) on-y)
-    (λ u. ⊎-elim (λ v. near-shift _ _ _ _ (omega (arith, u, v)) (k .hl)) (λ v. near-shift _ _ _ _ (omega (arith, u, v)) (k .hh)) on-y)
-    (lead (r .x) (c .x) (q .x) .one)
-
--- with q's ends and c's square the test by leads is the corner test
-pub all-as-near : (r : Rect) (c q : Place) → allAsNear (rectEndsOf r q) c q (dist² q c) ≡ cornersAsNear r c q
-all-as-near r c q =
-    both-led r c q ∙ same _ _ (λ t. joined r c q (each-led r c q t)) (λ t. one-led r c q (corners r c q t))
+    all : asNearTo (worstCorner r c q) c q ≡ true → Corners r c q
+    all t =
+        let xl : InSpan (r .x .low) (r .x) = record { low = omega arith; high = u .x } in
+        let xh : InSpan (r .x .high) (r .x) = record { low = u .x; high = omega arith } in
+        let yl : InSpan (r .y .low) (r .y) = record { low = omega arith; high = u .y } in
+        let yh : InSpan (r .y .high) (r .y) = record { low = u .y; high = omega arith } in
+        record { ll = at _ _ xl yl t; lh = at _ _ xl yh t; hl = at _ _ xh yl t; hh = at _ _ xh yh t }

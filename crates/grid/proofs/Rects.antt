@@ -5,13 +5,11 @@ use native.Mathlib.Nat.{mul-le-mul}
 use native.Mathlib.Omega.{arith}
 use Rattle.grid.specs.declared.place.Place.{Place}
 use Rattle.grid.specs.declared.rect.Rect.{Rect}
-use Rattle.grid.specs.declared.rect.RectEnds.{RectEnds}
 use Rattle.axis.specs.Axis.{sq}
-use Rattle.grid.specs.Place.{PlaceOnGrid, RectOnGrid, RectEndsFit, Inside, Within, dist², spotOf, rectGrown, areaOf, leastSquare, rectEndsOf}
+use Rattle.grid.specs.Place.{PlaceOnGrid, RectOnGrid, Inside, Within, dist², spotOf, rectGrown, areaOf, leastSquare}
 use Rattle.axis.proofs.Axis.{sq-sym, sq-most, length-most, gap-square-most, gap-spot, gap-square-least}
 use Rattle.axis.proofs.Axis.{span-comm, span-assoc, span-idem, span-grid, span-refl, span-trans, span-left, span-right, span-least}
 use Rattle.axis.proofs.Axis.{in-span-within}
-use Rattle.axis.proofs.Machine.{ends-fit}
 
 -- ---- equal by their fields
 
@@ -20,9 +18,6 @@ place-ext e f = λ i. record { x = e i; y = f i }
 
 pub rect-ext : {r s : Rect} → r .x ≡ s .x → r .y ≡ s .y → r ≡ s
 rect-ext e f = λ i. record { x = e i; y = f i }
-
-pub rect-ends-ext : {d e : RectEnds} → d .x ≡ e .x → d .y ≡ e .y → d ≡ e
-rect-ends-ext e f = λ i. record { x = e i; y = f i }
 
 -- ---- growing
 
@@ -103,6 +98,3 @@ least-square-least q i = omega (arith, gap-square-least (q .x) (i .x), gap-squar
 pub least-square-spot : (p q : Place) → leastSquare (spotOf p) q ≡ dist² q p
 unfolding leastSquare dist² sq
 least-square-spot p q = simp gap-spot
-
-pub rect-ends-fit : {r : Rect} {q : Place} → RectOnGrid r → PlaceOnGrid q → RectEndsFit (rectEndsOf r q)
-rect-ends-fit g h = record { x = ends-fit (g .x) (h .x); y = ends-fit (g .y) (h .y) }

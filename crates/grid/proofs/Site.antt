@@ -6,6 +6,9 @@ use native.Mathlib.Decide.{decLt}
 use native.Mathlib.Omega.{arith}
 use borrow.Author.Tests.{lt-ltb, le-ltb}
 use lib.IntN.{ℤ, pos, negsuc, natAbs, subℕ, _-ℤ_}
+use mir.Syntax.{w32}
+use mir.Val.{SFits, toZ, ofZ}
+use mir.ValLaws.{toZ-ofZ}
 use Rattle.axis.specs.Axis.{apart, sq}
 use Rattle.words.specs.Word.{IsWord, onGrid, stepsOf}
 use Rattle.grid.specs.Place.{PlaceOnGrid, dist²}
@@ -58,3 +61,9 @@ dist-sites {p} {q} f g = omega (arith, sq-words (p .x) (q .x) (f .x) (g .x), sq-
 -- 01: no square exceeds 8,000,000,000,000
 pub distance-most : {p q : Site} → SiteOnGrid p → SiteOnGrid q → distance² p q ≤ 8000000000000
 distance-most g h = omega (arith, dist-sites (site-words g) (site-words h), dist-most (place-grid g) (place-grid h))
+
+-- ---- what is passed on
+
+-- the site of two words, as a callee gets them
+pub site-passed : (x y : ℤ) → SFits w32 x → SFits w32 y → _≡_ {A = Site} (record { x = toZ w32 (ofZ w32 x); y = toZ w32 (ofZ w32 y) }) (record { x = x; y = y })
+site-passed x y f g = λ i. record { x = toZ-ofZ w32 x f i; y = toZ-ofZ w32 y g i }

@@ -1,12 +1,9 @@
 -- 02 §2: what "as near or nearer" means, and the corner test. Nothing else in the repository looks inside `asNear`.
 use Prim.Native.Nat.{ℕ}
-use mathlib.Core.Bool.{Bool, false, _&&_}
+use mathlib.Core.Bool.{Bool, _&&_}
 use lib.Dec.{leb}
-use lib.IntN.{ℤ, pos, negsuc, _+ℤ_}
 use Rattle.grid.specs.declared.place.Place.{Place}
 use Rattle.grid.specs.declared.rect.Rect.{Rect}
-use Rattle.grid.specs.declared.rect.RectEnds.{RectEnds}
-use Rattle.axis.specs.Axis.{leadOf}
 use Rattle.grid.specs.Place.{dist²}
 
 -- a holder at squared distance d is as near as one at e, or nearer: a newcomer does not displace an equal
@@ -28,12 +25,3 @@ cornersAsNear r c q =
     && (cornerAsNear (r .x .low) (r .y .high) c q
     && (cornerAsNear (r .x .high) (r .y .low) c q
     && cornerAsNear (r .x .high) (r .y .high) c q))
-
--- a lead of z is no less than a squared distance d
-unfoldable pub led : ℕ → ℤ → Bool
-led d (pos n) = asNear d n
-led d (negsuc n) = false
-
--- c, at the squared distance d from q, has leads on the two axes that are together no less than d: with q's ends, all four corners are as near to c as to q, or nearer
-unfoldable pub allAsNear : RectEnds → Place → Place → ℕ → Bool
-allAsNear e c q d = led d (leadOf (e .x) (c .x) (q .x) +ℤ leadOf (e .y) (c .y) (q .y))

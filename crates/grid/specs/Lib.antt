@@ -1,3 +1,4 @@
 pub mod Place
 pub mod AsNear
+pub mod Corner
 pub mod Site

@@ -1,13 +1,12 @@
 -- Places and rectangles, in steps: each measure is made of the two axes.
-use Prim.Native.Nat.{ℕ, _+_, _-_, _*_}
+use Prim.Native.Nat.{ℕ, _+_, _-_, _*_, _≤_}
 use mathlib.Core.Bool.{cond}
 use lib.Dec.{ltb}
 use Rattle.grid.specs.declared.place.Place.{Place}
 use Rattle.grid.specs.declared.rect.Rect.{Rect}
-use Rattle.grid.specs.declared.rect.RectEnds.{RectEnds}
 use Rattle.grid.specs.declared.rect.Axis.{Axis}
 use Rattle.grid.specs.declared.rect.Axis.the-variants.{X, Y}
-use Rattle.axis.specs.Axis.{OnGrid, SpanOnGrid, EndsFit, sq, spanGrown, spanLength, spanSum, gap, endsOf, InSpan, SpanWithin}
+use Rattle.axis.specs.Axis.{OnGrid, SpanOnGrid, sq, spanGrown, spanLength, spanSum, gap, InSpan, SpanWithin}
 
 pub record PlaceOnGrid (p : Place) : Type 0 where
   pub x : OnGrid (p .x)
@@ -16,6 +15,12 @@ pub record PlaceOnGrid (p : Place) : Type 0 where
 pub record RectOnGrid (r : Rect) : Type 0 where
   pub x : SpanOnGrid (r .x)
   pub y : SpanOnGrid (r .y)
+
+-- a rectangle as a sound tree has it: on the grid, and low no more than high on both axes
+pub record Upright (r : Rect) : Type 0 where
+  pub grid : RectOnGrid r
+  pub x : r .x .low ≤ r .x .high
+  pub y : r .y .low ≤ r .y .high
 
 -- the squared straight-line distance
 unfoldable pub dist² : Place → Place → ℕ
@@ -58,11 +63,3 @@ pub record Inside (p : Place) (r : Rect) : Type 0 where
 pub record Within (r s : Rect) : Type 0 where
   pub x : SpanWithin (r .x) (s .x)
   pub y : SpanWithin (r .y) (s .y)
-
--- twice how far the ends of the rectangle lie beyond a place
-abbrev pub rectEndsOf : Rect → Place → RectEnds
-rectEndsOf r q = record { x = endsOf (r .x) (q .x); y = endsOf (r .y) (q .y) }
-
-pub record RectEndsFit (e : RectEnds) : Type 0 where
-  pub x : EndsFit (e .x)
-  pub y : EndsFit (e .y)

@@ -1,8 +1,7 @@
 // A place on the grid, its distance to another, and the one word that decides what is as near.
 ghost use mathlib.Core.Path.{_≡_};
-ghost use Prim.Native.Nat.{_+_, _≤_};
 ghost use Rattle.grid.specs.Place.{PlaceOnGrid, dist², spotOf};
-ghost use Rattle.grid.specs.AsNear.{asNear, led};
+ghost use Rattle.grid.specs.AsNear.{asNear};
 use crate::rect::Rect;
 use axis::span::Span;
 use axis::span::square;
@@ -17,14 +16,6 @@ pub fn is_as_near(d: u64, e: u64) -> bool
     ensures { λ r. ⌜ r ≡ asNear d e ⌝ }
 {
     d <= e
-}
-
-// The same for one that leads by a signed number where it has to lead by a squared distance d at least.
-pub fn is_led(d: u64, lead: i64) -> bool
-    requires { ⌜ d ≤ 8000000000000 ⌝ }
-    ensures { λ r. ⌜ r ≡ led d lead ⌝ }
-{
-    (d as i64) <= lead
 }
 
 impl Place {

@@ -1,23 +1,14 @@
-// A rectangle by value: grown, area, least squared distance, corner test.
+// A rectangle by value: grown, area, least squared distance.
 ghost use mathlib.Core.Path.{_≡_};
-ghost use Prim.Native.Nat.{_+_, _-_, _*_, _≤_};
-ghost use Rattle.grid.specs.Place.{PlaceOnGrid, RectOnGrid, RectEndsFit, rectGrown, areaOf, growthOf, longerAxis, sumOn, leastSquare, rectEndsOf};
-ghost use Rattle.grid.specs.AsNear.{allAsNear};
+ghost use Prim.Native.Nat.{_+_, _-_, _*_};
+ghost use Rattle.grid.specs.Place.{PlaceOnGrid, RectOnGrid, rectGrown, areaOf, growthOf, longerAxis, sumOn, leastSquare};
 use crate::place::Place;
-use crate::place::is_led;
-use axis::span::Ends;
 use axis::span::Span;
 use axis::span::beyond;
 
 pub struct Rect {
     pub x: Span,
     pub y: Span,
-}
-
-// Twice how far the ends of a rectangle lie beyond a place, axis by axis.
-pub struct RectEnds {
-    pub x: Ends,
-    pub y: Ends,
 }
 
 pub enum Axis {
@@ -79,26 +70,5 @@ impl Rect {
         ensures { λ r. ⌜ r ≡ leastSquare self q ⌝ }
     {
         self.x.gap_square(q.x) + self.y.gap_square(q.y)
-    }
-
-    // Twice how far the ends lie beyond q: computed once for many c.
-    pub fn ends(self, q: Place) -> RectEnds
-        requires { ⌜ RectOnGrid self × PlaceOnGrid q ⌝ }
-        ensures { λ r. ⌜ r ≡ rectEndsOf self q ⌝ }
-    {
-        RectEnds {
-            x: self.x.ends(q.x),
-            y: self.y.ends(q.y),
-        }
-    }
-}
-
-impl RectEnds {
-    // The corner test with the ends at hand: all four corners are as near to c, which is at the squared distance `square` from q, as to q, or nearer.
-    pub fn all_as_near(self, c: Place, q: Place, square: u64) -> bool
-        requires { ⌜ RectEndsFit self × PlaceOnGrid c × PlaceOnGrid q × (square ≤ 8000000000000) ⌝ }
-        ensures { λ r. ⌜ r ≡ allAsNear self c q square ⌝ }
-    {
-        is_led(square, self.x.lead(c.x, q.x) + self.y.lead(c.y, q.y))
     }
 }

@@ -5,7 +5,7 @@ use mathlib.Core.Path.{_≡_, sym, ap, subst, _∙_}
 use mathlib.Core.Bool.{true}
 use mathlib.Core.List.{List, [], _∷_, _++_, map, map-id}
 use lib.ListN.{length, getD, set, length-map}
-use Rattle.grid.specs.Place.{RectOnGrid}
+use Rattle.grid.specs.Place.{RectOnGrid, Upright}
 use Rattle.order.specs.Lists.{count, All}
 use Rattle.order.proofs.Lists.{join-one, all-at, all-then, all-map}
 use Rattle.table.specs.declared.node.Entry.{Entry}
@@ -17,7 +17,7 @@ use Rattle.table.specs.Slots.{pageAt, levelAt, entriesAt, entryFor}
 use Rattle.table.proofs.Nodes.{shows-on}
 use Rattle.table.specs.Stations.{isPoint}
 use Rattle.table.specs.Tree.{Tree, topOf, entryOfTree, entriesOfTree, slotsOf, leavesOf, Stored}
-use Rattle.rules.proofs.Reading.{Upright, point, point-upright, Good, good-child, top-inside, entry-reference, entries-upright, entry-upright, childAt, child-in, stored-child, stored-entries}
+use Rattle.rules.proofs.Reading.{point, point-upright, Good, good-child, top-inside, entry-reference, entries-upright, entry-upright, childAt, child-in, stored-child, stored-entries}
 use Rattle.change.specs.Choose.{entryIn, chosen}
 use Rattle.joining.specs.declared.enrol.Up.{Up}
 use Rattle.joining.specs.Enrol.{Grown, settled, inserted}

@@ -42,7 +42,7 @@ fn answer_lines(
     true
 }
 
-// A sheet starts with the empty table and an answer list of 500; each query makes its own candidate list of 500.
+// A sheet starts with the empty table and an answer list of 500; the clerk makes the rows that its queries write on, of 500 places each.
 fn answer_all(sheet: &[u8], fd: i32) -> bool
     requires { ⌜ length (now sheet) ≤ LONGEST ⌝ }
 {

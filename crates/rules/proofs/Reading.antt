@@ -12,7 +12,7 @@ use Rattle.axis.specs.declared.span.Span.{Span}
 use Rattle.words.specs.Word.{natOf}
 use Rattle.grid.specs.declared.rect.Rect.{Rect}
 use Rattle.axis.specs.Axis.{OnGrid}
-use Rattle.grid.specs.Place.{RectOnGrid, rectGrown, spotOf}
+use Rattle.grid.specs.Place.{Upright, rectGrown, spotOf}
 use Rattle.axis.proofs.Axis.{span-ext}
 use Rattle.grid.proofs.Rects.{rect-ext, grown-grid}
 use Rattle.order.specs.Lists.{Mem, All, NoDup}
@@ -31,12 +31,6 @@ use Rattle.rules.proofs.Joined.{mem-join, all-parts, nodup-parts}
 use Rattle.rules.proofs.Size.{sound-bounds}
 
 -- ---- rectangles
-
--- a rectangle as a sound tree has it: on the grid, and low no more than high on both axes
-pub record Upright (r : Rect) : Type 0 where
-  pub grid : RectOnGrid r
-  pub x : r .x .low ≤ r .x .high
-  pub y : r .y .low ≤ r .y .high
 
 pub grown-upright : {r s : Rect} → Upright r → Upright s → Upright (rectGrown r s)
 grown-upright u v = record { grid = grown-grid (u .grid) (v .grid); x = omega arith; y = omega arith }

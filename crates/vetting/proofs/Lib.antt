@@ -1,6 +1,5 @@
 pub mod Below
 pub mod Inserting
 pub mod Listing
-pub mod Nearby
 pub mod Passed
 pub mod Testing

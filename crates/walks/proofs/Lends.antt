@@ -1,4 +1,4 @@
--- The laws of `LentRow.antt`, `Again.antt` and `Reshared.antt` as steps of a walk by hand: something is lent for a call, and comes back. They say nothing of the crate.
+-- The laws of `LentRow.antt` and `Again.antt` as steps of a walk by hand: something is lent for a call, and comes back. They say nothing of the crate.
 --     blank, for-none  a call with no parameters that promises nothing: its result
 --     slices           the address of a local array, and a slice made of it and of its length
 --     row, MutRow, ShrRow      the array in the local at b, as a slice under the lifetime and the name of a loan
@@ -6,7 +6,6 @@
 --     lends-row, ends-row      it is lent as a `&mut [T]`, and comes back once the call has said its last elements
 --     shares-row, frees-row    it is lent as a `&[T]`, and the local is not needed any more
 --     relends, relent  a `&mut [T]` is lent again for a lifetime of a call, and comes back at its last elements
---     rereads, reread  it is lent to be read, and comes back as it was
 -- Each that makes an update of ghost state takes `tt` for the goal that absorbs it. Assumes `Given`.
 use mathlib.Core.Path.{_≡_, refl, sym}
 use Prim.Native.Nat.{ℕ, _^_}
@@ -40,7 +39,6 @@ use denote.Triple.Clauses.{Ended, Clauses}
 use Rattle.walks.proofs.Ends.{Called, Result, answers}
 use Rattle.walks.proofs.LentRow.{Whole, laid, taken, counted, lends, ends, shared, freed}
 use Rattle.walks.proofs.Again.{LentAgain, lends-again, comes-back}
-use Rattle.walks.proofs.Reshared.{LentToRead, shares-again, comes-back-read}
 
 abbrev pub row : {X : Type 0} → ℕ → ℕ × GName → List X → RefT (List X)
 row b p l = record { ptr = (b, 0); name = p .1; now = l }
@@ -102,15 +100,6 @@ module _ {M : Type 1} {𝓤 : URA M} {H : Heap 𝓤} {A : Atoms 𝓤} {K : Type 
     relent room ν δ zs k =
         lft-end t z $ move t (2 ∷ []) $ fsplit t $ move t (1 ∷ []) $ feqL t (λ l. move t (1 ∷ 2 ∷ 0 ∷ []) $
         use3 W (later (‵ (MutAt ℓ κ R b o γ zs (length ys)) ⊛ ‵ (flft κ q))) (comes-back R κ (ν ∷ []) q γ b o 𝓤 H A W ℓ ℓ ys δ zs room l) $ await t z $ split t $ rewrite t 0 (λ (j : ℕ). ‵ (MutAt ℓ κ R b o γ zs j)) (sym l) refl $ k l)
-
-    pub rereads : {n : ℕ} → length ys ≡ n → ((ν : ℕ) (δ : GName) → Seq K W (‵ (flft (ν ∷ []) fullShare) ∷ ‵ (ShrAt ℓ (ν ∷ []) R b o δ ys n) ∷ ‵ (LentToRead R κ (ν ∷ []) q γ b o ys) ∷ Γ) G)
-        → Seq K W (‵ (MutAt ℓ κ R b o γ ys (length ys)) ∷ ‵ (flft κ q) ∷ Γ) G
-    rereads e k =
-        lft-new t z (λ ν. move t (1 ∷ 2 ∷ []) $ use2 W (later (some (λ (δ : GName). ‵ (ShrAt ℓ (ν ∷ []) R b o δ ys (length ys)) ⊛ ‵ (LentToRead R κ (ν ∷ []) q γ b o ys)))) (shares-again R κ (ν ∷ []) q γ b o 𝓤 H A W ℓ ℓ ys) $ await t z $ pick t (λ δ.
-        split t $ rewrite t 0 (λ (j : ℕ). ‵ (ShrAt ℓ (ν ∷ []) R b o δ ys j)) e refl $ move t (2 ∷ 0 ∷ 1 ∷ []) $ k ν δ))
-
-    pub reread : (ν : ℕ) → Step K W (‵ (MutAt ℓ κ R b o γ ys (length ys)) ∷ ‵ (flft κ q) ∷ Γ) G (‵ (flft (ν ∷ []) fullShare) ∷ ‵ (LentToRead R κ (ν ∷ []) q γ b o ys) ∷ Γ) G
-    reread ν = step (λ s. lft-end t z $ use2 W (later (‵ (MutAt ℓ κ R b o γ ys (length ys)) ⊛ ‵ (flft κ q))) (comes-back-read R κ (ν ∷ []) q γ b o 𝓤 H A W ℓ ℓ ys) $ await t z $ split t $ s)
 
 -- ---- a call that needs nothing and promises nothing, as of a function that makes an array of zeros: it is handed nothing
 abbrev Nothing : Type 0

@@ -34,6 +34,10 @@ steps-passed z f e = e ∙ ap stepsOf (toZ-ofZ w32 z f)
 pub natural-passed : (z : ℤ) {r : ℕ} → SFits w32 z → r ≡ natOf (toZ w32 (ofZ w32 z)) → r ≡ natOf z
 natural-passed z f e = e ∙ ap natOf (toZ-ofZ w32 z f)
 
+-- the word at so many steps, as a callee gave it back
+pub word-given : (s : ℕ) {z : ℤ} → s < 2 ^ 32 → z ≡ wordOf s → toZ w32 (ofZ w32 z) ≡ wordOf s
+word-given s l e = ap (λ (z : ℤ). toZ w32 (ofZ w32 z)) e ∙ toZ-ofZ w32 (wordOf s) (word-fits (wordOf s) (word-is s l))
+
 -- ---- from a word to its steps
 
 sum-wide : (z : ℤ) (k : ℕ) → SFits w32 z → k < 2 ^ 32 → SFits w64 (z +ℤ pos k)

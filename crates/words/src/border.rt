@@ -58,11 +58,19 @@ pub fn natural_at(words: &[i32], at: usize) -> usize
     natural(words[at])
 }
 
+// The word at so many steps.
+pub fn word(s: u64) -> i32
+    requires { ⌜ s < 2 ^ 32 ⌝ }
+    ensures { λ r. ⌜ r ≡ wordOf s ⌝ }
+{
+    (s as i64 - ORIGIN) as i32
+}
+
 pub fn put_steps(words: &mut [i32], at: usize, s: u64)
     requires { ⌜ (at < length (now words)) × (s < 2 ^ 32) ⌝ }
     ensures { λ _. ⌜ now (words .exit) ≡ set (now (words .entry)) at (wordOf s) ⌝ }
 {
-    words[at] = (s as i64 - ORIGIN) as i32;
+    words[at] = word(s);
 }
 
 pub fn put_natural(words: &mut [i32], at: usize, n: usize)

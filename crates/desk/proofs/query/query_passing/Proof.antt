@@ -72,7 +72,7 @@ use Rattle.rules.specs.Rules.{wellFormed}
 use Rattle.asking.specs.declared.answer.Reply.{Reply}
 use Rattle.asking.proofs.answer.Reply as P
 use Rattle.asking.proofs.answer.Reply.Laws as P′
-use Rattle.asking.specs.Asked.{Askable, Listed}
+use Rattle.listing.specs.Listed.{Listable, Listed}
 use Rattle.desk.proofs.Granted.{query-granted}
 use Rattle.words.proofs.lent.are_words as are-words
 use Rattle.words.proofs.lent.are_words.Symbol as are-words-def
@@ -86,10 +86,10 @@ use Rattle.words.proofs.border.natural as natural
 use Rattle.words.proofs.border.natural.Symbol as natural-def
 use Rattle.words.proofs.border.natural.Symbol.{name as #words·border·natural}
 use Rattle.words.proofs.border.natural.Met as natural-thm
-use Rattle.asking.proofs.answer.answer as answer
-use Rattle.asking.proofs.answer.answer.Symbol as answer-def
-use Rattle.asking.proofs.answer.answer.Symbol.{name as #asking·answer·answer}
-use Rattle.asking.proofs.answer.answer.Met as answer-thm
+use Rattle.listing.proofs.listed.answer_listed as answer
+use Rattle.listing.proofs.listed.answer_listed.Symbol as answer-def
+use Rattle.listing.proofs.listed.answer_listed.Symbol.{name as #listing·listed·answer-listed}
+use Rattle.listing.proofs.listed.answer_listed.Met as answer-thm
 use Rattle.refusals.proofs.answered.handed_back as handed-back
 use Rattle.refusals.proofs.answered.handed_back.Symbol as handed-back-def
 use Rattle.refusals.proofs.answered.handed_back.Symbol.{name as #refusals·answered·handed-back}
@@ -199,14 +199,14 @@ module _ {M : Type 1} (𝓤 : URA M) (H : Heap 𝓤) (A : Atoms 𝓤) (W : Rules
   abbrev to-answer : ℕ → Val → Answer 𝓤 H A mem run .Ghost
   to-answer k w = ((κs, qs, tt, answer-args k, (s₁ ∷ [], (vint w32 (ofZ w32 zx) ∷ [], (vint w32 (ofZ w32 zy) ∷ [], (w ∷ [], (s ∷ [], (s₂ ∷ [], tt))))))), tt)
 
-  goes-answer : (k : ℕ) (w : Val) → Askable ws q (length ys)
+  goes-answer : (k : ℕ) (w : Val) → Listable ws q (length ys)
       → ent 𝓤 (⋆ 𝓤 H A (‵ (flft (κs .0) (qs .0)) ∷ ‵ (flft (κs .1 .0) (qs .1 .0)) ∷ ‵ (flft (κs .1 .1 .0) (qs .1 .1 .0)) ∷ ‵ Tabled ∷ ‵ (usize .own k (w ∷ [])) ∷ ‵ Listed′ ∷ ‵ Numbered ∷ [])) (Answer 𝓤 H A mem run .pre (to-answer k w))
   goes-answer k w ask =
       qed W (‵ (flft (κs .0) (qs .0)) ∷ ‵ (flft (κs .1 .0) (qs .1 .0)) ∷ ‵ (flft (κs .1 .1 .0) (qs .1 .1 .0)) ∷ ‵ Tabled ∷ ‵ (usize .own k (w ∷ [])) ∷ ‵ Listed′ ∷ ‵ Numbered ∷ []) ∵
       says ! ask $ stack ! 3 $ move ! (2 ∷ 3 ∷ 4 ∷ []) $ stack ! 3 $ owned ! i32 (Is i32) (sint-makes 𝓤 H A W w32) zy _ gy $ join ! $ owned ! i32 (Is i32) (sint-makes 𝓤 H A W w32) zx _ gx $ join ! $ move ! (2 ∷ 0 ∷ []) $ join ! $ move ! (1 ∷ 0 ∷ []) $ done !
 
   -- a query that is not refused before its answers are known can be answered
-  askable : (g : Given) → All IsWord ws → g ≡ queryGives ws q zk (length ys) (answersTold ws q zk) → g ≡ Done → Askable ws q (length ys)
+  askable : (g : Given) → All IsWord ws → g ≡ queryGives ws q zk (length ys) (answersTold ws q zk) → g ≡ Done → Listable ws q (length ys)
   askable g words e granted =
       let y = query-granted ws q zk (length ys) (answersTold ws q zk) (sym e ∙ granted) .0 in
       record { table = record { long = y .long; words = words; rules = y .rules }; x = y .grid .x; y = y .grid .y; room = y .candidates }
@@ -218,7 +218,7 @@ module _ {M : Type 1} (𝓤 : URA M) (H : Heap 𝓤) (A : Atoms 𝓤) (W : Rules
   goes-reply p w =
       qed W (‵ (P.the-row .own p (w ∷ [])) ∷ []) ∵ owned ! usize (Is usize) (uint-makes 𝓤 H A W w64) (length (now ar)) _ (refl, ra .0) $ move ! (1 ∷ 0 ∷ []) $ asked ! 0 2 $ done !
 
-  module _ (C : Calls 𝓤 H) (Λ : Loops 𝓤 H) (fm : FmC 𝓤 H (W .laws) C) (known-words : Triple 𝓤 (C #words·lent·are-words) (AreWords 𝓤 H A mem run)) (known-given : Triple 𝓤 (C #refusals·querying·query-given) (QueryGiven 𝓤 H A mem run)) (known-is-refused : Triple 𝓤 (C #refusals·answered·is-refused) (IsRefused 𝓤 H A mem run)) (known-refused : Triple 𝓤 (C #refusals·answered·refused) (Refused 𝓤 H A mem run)) (known-natural : Triple 𝓤 (C #words·border·natural) (Natural 𝓤 H A mem run)) (known-answer : Triple 𝓤 (C #asking·answer·answer) (Answer 𝓤 H A mem run)) (known-handed : Triple 𝓤 (C #refusals·answered·handed-back) (HandedBack 𝓤 H A mem run)) where
+  module _ (C : Calls 𝓤 H) (Λ : Loops 𝓤 H) (fm : FmC 𝓤 H (W .laws) C) (known-words : Triple 𝓤 (C #words·lent·are-words) (AreWords 𝓤 H A mem run)) (known-given : Triple 𝓤 (C #refusals·querying·query-given) (QueryGiven 𝓤 H A mem run)) (known-is-refused : Triple 𝓤 (C #refusals·answered·is-refused) (IsRefused 𝓤 H A mem run)) (known-refused : Triple 𝓤 (C #refusals·answered·refused) (Refused 𝓤 H A mem run)) (known-natural : Triple 𝓤 (C #words·border·natural) (Natural 𝓤 H A mem run)) (known-answer : Triple 𝓤 (C #listing·listed·answer-listed) (Answer 𝓤 H A mem run)) (known-handed : Triple 𝓤 (C #refusals·answered·handed-back) (HandedBack 𝓤 H A mem run)) where
     abbrev En : (l₀ l₁ l₂ l₃ l₄ l₅ l₆ l₇ l₈ l₉ l₁₀ l₁₁ l₁₂ l₁₃ l₁₄ l₁₅ : ℕ) → Env 𝓤 H
     En l₀ l₁ l₂ l₃ l₄ l₅ l₆ l₇ l₈ l₉ l₁₀ l₁₁ l₁₂ l₁₃ l₁₄ l₁₅ = env (code.function .locals) (l₀ ∷ l₁ ∷ l₂ ∷ l₃ ∷ l₄ ∷ l₅ ∷ l₆ ∷ l₇ ∷ l₈ ∷ l₉ ∷ l₁₀ ∷ l₁₁ ∷ l₁₂ ∷ l₁₃ ∷ l₁₄ ∷ l₁₅ ∷ [])
 
@@ -280,7 +280,7 @@ query-passing-spec 𝓤 H 𝓜 𝓖 𝓡 =
     let is-refused-met = cited 𝓤 H (IsRefused 𝓤 H (𝓖 .A) (𝓜 .mem) (𝓡 .run)) 𝓜 𝓡 code.env #refusals·answered·is-refused is-refused-def.routine code.calls-refusals·answered·is-refused (is-refused-thm.met 𝓤 H 𝓜 𝓖 𝓡) in
     let refused-met = cited 𝓤 H (Refused 𝓤 H (𝓖 .A) (𝓜 .mem) (𝓡 .run)) 𝓜 𝓡 code.env #refusals·answered·refused refused-def.routine code.calls-refusals·answered·refused (refused-thm.met 𝓤 H 𝓜 𝓖 𝓡) in
     let natural-met = cited 𝓤 H (Natural 𝓤 H (𝓖 .A) (𝓜 .mem) (𝓡 .run)) 𝓜 𝓡 code.env #words·border·natural natural-def.routine code.calls-words·border·natural (natural-thm.met 𝓤 H 𝓜 𝓖 𝓡) in
-    let answer-met = cited 𝓤 H (Answer 𝓤 H (𝓖 .A) (𝓜 .mem) (𝓡 .run)) 𝓜 𝓡 code.env #asking·answer·answer answer-def.routine code.calls-asking·answer·answer (answer-thm.met 𝓤 H 𝓜 𝓖 𝓡) in
+    let answer-met = cited 𝓤 H (Answer 𝓤 H (𝓖 .A) (𝓜 .mem) (𝓡 .run)) 𝓜 𝓡 code.env #listing·listed·answer-listed answer-def.routine code.calls-listing·listed·answer-listed (answer-thm.met 𝓤 H 𝓜 𝓖 𝓡) in
     let handed-met = cited 𝓤 H (HandedBack 𝓤 H (𝓖 .A) (𝓜 .mem) (𝓡 .run)) 𝓜 𝓡 code.env #refusals·answered·handed-back handed-back-def.routine code.calls-refusals·answered·handed-back (handed-back-thm.met 𝓤 H 𝓜 𝓖 𝓡) in
     closes 𝓤 H 𝓜 𝓖 𝓡 code.env #desk·query·query-passing code.function (code.unfolded 𝓤 H 𝓜 𝓡) f.ended stayed (goes 𝓤 H (𝓖 .A) W) (f.clauses 𝓤 H (𝓖 .A) (𝓜 .mem) (𝓡 .run)) vals tells
     (λ fm x g are. needs 𝓤 _ _ (λ pre. walk 𝓤 H (𝓖 .A) W (𝓜 .mem) (𝓡 .run) (x .0) (x .1) (x .3 .0) (x .3 .1 .0) (x .3 .1 .1 .0) (x .3 .1 .1 .1 .0) (x .3 .1 .1 .1 .1 .0) (x .3 .1 .1 .1 .1 .1 .0) (are .0 .0 .1) (are .1 .0) (are .1 .1 .0) (are .1 .1 .1 .0) (are .1 .1 .1 .1 .0 .0 .1) (are .1 .1 .1 .1 .1 .0 .0 .1) pre _ _ fm words-met given-met is-refused-met refused-met natural-met answer-met handed-met))

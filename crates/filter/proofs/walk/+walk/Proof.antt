@@ -10,7 +10,8 @@ use Rattle.table.proofs.Slots.{page-few}
 use Rattle.order.proofs.Lists.{all-then}
 use Rattle.filter.specs.Walk.{each, nearestFirst, entered, walk as walkOf}
 use Rattle.filter.specs.Rows.{rows, foundIn, Noted}
-use Rattle.filter.proofs.Visits.{kept-grid, kept-square, noted-same, enter-hidden, enter-open, enter-ready}
+use Rattle.filter.proofs.Rows.{kept-standing}
+use Rattle.filter.proofs.Visits.{noted-same, enter-hidden, enter-open, enter-ready}
 use Rattle.filter.proofs.Turns.{walk-opens}
 use Rattle.filter.proofs.Taken.{taken-below}
 use Rattle.filter.proofs.NodeTurns.{
@@ -32,7 +33,7 @@ use borrow.Fn.PlainCycle.{Measures, is, falls, and}
 use Rattle.filter.proofs.walk.walk.Reads as walk
 use Rattle.filter.proofs.walk.walk.Kinds as walk-kinds
 use Rattle.filter.proofs.walk.+walk.Lts-walk as walk-lts
-use Rattle.filter.proofs.discard.hides_box.Reads as hides-box-reads
+use Rattle.leads.proofs.count.all_as_near.Reads as all-as-near-reads
 use Rattle.filter.proofs.nearest.nearest.Reads as nearest-reads
 use Rattle.filter.proofs.seen.Seen.opening.Reads as opening-reads
 use Rattle.filter.proofs.walk.visit_leaf.Reads as visit-leaf-reads
@@ -62,22 +63,22 @@ knows t = (
   count-at-reads.Learnt,
   entry-at-reads.Asked,
   entry-at-reads.Learnt,
-  hides-box-reads.Asked,
-  hides-box-reads.Learnt,
+  all-as-near-reads.Asked,
+  all-as-near-reads.Learnt,
   walk-below t,
   walk.Post,
 )
 
 abbrev walk-Inv-loop : walk-lts.InvT-loop
-walk-Inv-loop table slot level q k numbers₀ xs₀ ys₀ squares₀ so-far₀ below row count i₀ numbers xs ys squares so-far i =
+walk-Inv-loop table slot level q k numbers₀ xs₀ ys₀ bars₀ so-far₀ below row count i₀ numbers xs ys bars so-far i =
     (i ≤ count)
     × Noted q
-    (each (entered q k (walkOf q k (level - 1) table)) (take i (nearestFirst q k (entriesAt table slot))) (foundIn (rows numbers₀ xs₀ ys₀ squares₀) so-far₀))
-    (rows numbers₀ xs₀ ys₀ squares₀) (rows numbers xs ys squares) so-far
-    × (length numbers ≡ length numbers₀) × (length xs ≡ length xs₀) × (length ys ≡ length ys₀) × (length squares ≡ length squares₀)
+    (each (entered q k (walkOf q k (level - 1) table)) (take i (nearestFirst q k (entriesAt table slot))) (foundIn q (rows numbers₀ xs₀ ys₀ bars₀) so-far₀))
+    (rows numbers₀ xs₀ ys₀ bars₀) (rows numbers xs ys bars) so-far
+    × (length numbers ≡ length numbers₀) × (length xs ≡ length xs₀) × (length ys ≡ length ys₀) × (length bars ≡ length bars₀)
 
 abbrev walk-μ-loop : walk-lts.MeasureT-loop
-walk-μ-loop table slot level q k numbers₀ xs₀ ys₀ squares₀ so-far₀ below row count i₀ numbers xs ys squares so-far i = count - i
+walk-μ-loop table slot level q k numbers₀ xs₀ ys₀ bars₀ so-far₀ below row count i₀ numbers xs ys bars so-far i = count - i
 
 -- what the loop rests on
 abbrev AtLoop : ℕ → Type 0
@@ -91,54 +92,54 @@ AtEntry t = walk-lts.After-entry-at (knows t) (walk-at t) walk.Post walk-Inv-loo
 
 -- the turn is that of one of the children
 in-node : (t : ℕ) (w : InLoop t)
-    → let a = w .before .before .before .before .before .before .before .args in
+    → let a = w .before .before .before .before .before .before .before .before .before .before .args in
     w .before .loop .i < length (entriesAt (a .table .now) (a .slot))
 in-node t w = omega (arith, w .loop-test .taken, w .before .before .count-at .ensures)
 
 -- they are no more than the row has places
 in-row : (t : ℕ) (w : InLoop t) → w .before .loop .i < 10
 in-row t w =
-    let a = w .before .before .before .before .before .before .before .args in
+    let a = w .before .before .before .before .before .before .before .before .before .before .args in
     omega (arith, in-node t w, page-few (a .table .now) (a .slot))
 
 turns-here : (t : ℕ) (l : AtLoop t)
     → let o = l .before .before .before .before in
-    let a = o .before .before .args in
+    let a = o .before .before .before .before .before .args in
     Turns (IsChild (a .table .now) (a .level - 1)) (a .q) (a .k) (entered (a .q) (a .k) (walkOf (a .q) (a .k) (a .level - 1) (a .table .now))) (entriesAt (a .table .now) (a .slot))
-    (foundIn (rows (a .numbers .now) (a .xs .now) (a .ys .now) (a .squares .now)) (o .opening .result)) (rows (a .numbers .now) (a .xs .now) (a .ys .now) (a .squares .now))
+    (foundIn (a .q) (rows (a .numbers .now) (a .xs .now) (a .ys .now) (a .bars .now)) (o .opening .result)) (rows (a .numbers .now) (a .xs .now) (a .ys .now) (a .bars .now))
 turns-here t l =
     let f = l .before .before .before in
     let o = f .before in
-    let s = o .before .before in
+    let s = o .before .before .before .before .before in
     let a = s .args in
     rw (o .opening .ensures)
-    (above-turns (a .q) (a .k) (a .table .now) (a .slot) (a .level) (rows (a .numbers .now) (a .xs .now) (a .ys .now) (a .squares .now)) (a .seen) (s .pre .1 .1) (omega (arith, f .if1 .left)) (s .pre .1 .0 .1))
+    (above-turns (a .q) (a .k) (a .table .now) (a .slot) (a .level) (rows (a .numbers .now) (a .xs .now) (a .ys .now) (a .bars .now)) (a .seen) (s .pre .1 .1) (omega (arith, f .if1 .left)) (s .pre .1 .0 .1))
 
 turn-here : (t : ℕ) (e : AtEntry t)
     → let l = e .before .before in
     let o = l .before .before .before .before in
-    let a = o .before .before .args in
+    let a = o .before .before .before .before .before .args in
     Turn (IsChild (a .table .now) (a .level - 1)) (a .q) (a .k) (entered (a .q) (a .k) (walkOf (a .q) (a .k) (a .level - 1) (a .table .now))) (entriesAt (a .table .now) (a .slot))
-    (foundIn (rows (a .numbers .now) (a .xs .now) (a .ys .now) (a .squares .now)) (o .opening .result)) (rows (a .numbers .now) (a .xs .now) (a .ys .now) (a .squares .now)) (l .loop .i) (e .entry-at .result)
-    (rows (l .loop .numbers) (l .loop .xs) (l .loop .ys) (l .loop .squares)) (l .loop .so-far)
+    (foundIn (a .q) (rows (a .numbers .now) (a .xs .now) (a .ys .now) (a .bars .now)) (o .opening .result)) (rows (a .numbers .now) (a .xs .now) (a .ys .now) (a .bars .now)) (l .loop .i) (e .entry-at .result)
+    (rows (l .loop .numbers) (l .loop .xs) (l .loop .ys) (l .loop .bars)) (l .loop .so-far)
 turn-here t e =
     let l = e .before .before in
     turn (turns-here t l) (l .loop .i) (l .before .before .nearest .ensures) (in-node t (e .before)) (e .entry-at .ensures) (l .loop .inv .1)
 
 walk-opening-requires : (t : ℕ) → walk-lts.Need-opening-requires (knows t) (walk-at t) walk.Post walk-Inv-loop walk-μ-loop
 walk-opening-requires t c κs =
-    let s = c .before in
+    let s = c .before .before .before .before in
     let a = s .args in
-    let first = rows (a .numbers .now) (a .xs .now) (a .ys .now) (a .squares .now) in
-    omega (arith, walk-opens (a .q) (a .k) (a .level) (a .table .now) (a .slot) (foundIn first (a .seen)) .opened, s .pre .1 .1 .opened)
+    let first = rows (a .numbers .now) (a .xs .now) (a .ys .now) (a .bars .now) in
+    omega (arith, walk-opens (a .q) (a .k) (a .level) (a .table .now) (a .slot) (foundIn (a .q) first (a .seen)) .opened, s .pre .1 .1 .opened)
 
 walk-visit-leaf-requires : (t : ℕ) → walk-lts.Need-visit-leaf-requires (knows t) (walk-at t) walk.Post walk-Inv-loop walk-μ-loop
 walk-visit-leaf-requires t c κs =
     let f = c .before .before .before .before in
     let o = f .before in
-    let s = o .before .before in
+    let s = o .before .before .before .before .before in
     let a = s .args in
-    let first = rows (a .numbers .now) (a .xs .now) (a .ys .now) (a .squares .now) in (
+    let first = rows (a .numbers .now) (a .xs .now) (a .ys .now) (a .bars .now) in (
       (
         s .pre .1 .0 .0,
         passable-slot (a .level) (a .table .now) (a .slot) (s .pre .1 .0 .1),
@@ -161,34 +162,34 @@ walk-same-length-4 t c = search needs
 
 walk-returns : (t : ℕ) → walk-lts.Need-returns (knows t) (walk-at t) walk.Post walk-Inv-loop walk-μ-loop
 walk-returns t c =
-    let v = c .before .before .before .before .before in
+    let v = c .before .before .before .before .before .before .before .before in
     let f = v .before .before .before .before .before in
     let o = f .before in
-    let a = o .before .before .args in
-    let first = rows (a .numbers .now) (a .xs .now) (a .ys .now) (a .squares .now) in
-    rw (walk-zero (a .q) (a .k) (a .table .now) (a .slot) (a .level) (f .if1 .taken) (foundIn first (a .seen))) (rw (o .opening .ensures) at (v .visit-leaf .ensures))
+    let a = o .before .before .before .before .before .args in
+    let first = rows (a .numbers .now) (a .xs .now) (a .ys .now) (a .bars .now) in
+    rw (walk-zero (a .q) (a .k) (a .table .now) (a .slot) (a .level) (f .if1 .taken) (foundIn (a .q) first (a .seen))) (rw (o .opening .ensures) at (v .visit-leaf .ensures))
 
 walk-sub-below : (t : ℕ) → walk-lts.Need-sub-below (knows t) (walk-at t) walk.Post walk-Inv-loop walk-μ-loop
 walk-sub-below t c = omega (arith, c .if1 .left)
 
 walk-nearest-requires : (t : ℕ) → walk-lts.Need-nearest-requires (knows t) (walk-at t) walk.Post walk-Inv-loop walk-μ-loop
 walk-nearest-requires t c κs =
-    let s = c .before .before .before in
+    let s = c .before .before .before .before .before .before in
     let a = s .args in (
       (s .pre .1 .0 .0, passable-slot (a .level) (a .table .now) (a .slot) (s .pre .1 .0 .1), s .pre .1 .1 .grid),
-      all-then (IsChild (a .table .now) (a .level - 1)) (λ e. RectOnGrid (e .rect)) (λ e h. h .0) (entriesAt (a .table .now) (a .slot))
+      all-then (IsChild (a .table .now) (a .level - 1)) (λ e. RectOnGrid (e .rect)) (λ e h. h .0 .grid) (entriesAt (a .table .now) (a .slot))
           (passable-above (a .table .now) (a .slot) (a .level) (omega (arith, c .if1 .left)) (s .pre .1 .0 .1)),
     )
 
 walk-count-at-requires : (t : ℕ) → walk-lts.Need-count-at-requires (knows t) (walk-at t) walk.Post walk-Inv-loop walk-μ-loop
 walk-count-at-requires t c κs =
-    let s = c .before .before .before .before in
+    let s = c .before .before .before .before .before .before .before in
     (s .pre .1 .0 .0, passable-slot (s .args .level) (s .args .table .now) (s .args .slot) (s .pre .1 .0 .1))
 
 walk-loop-holds : (t : ℕ) → walk-lts.Need-loop-holds (knows t) (walk-at t) walk.Post walk-Inv-loop walk-μ-loop
 walk-loop-holds t c =
     let o = c .before .before .before in
-    (omega arith, rw (o .opening .ensures) (noted-same (o .before .before .pre .1 .1 .kept)), refl, refl, refl, refl)
+    (omega arith, rw (o .opening .ensures) (noted-same (o .before .before .before .before .before .pre .1 .1 .kept)), refl, refl, refl, refl)
 
 walk-mul-at : (t : ℕ) → walk-lts.Need-mul-at (knows t) (walk-at t) walk.Post walk-Inv-loop walk-μ-loop
 walk-mul-at t c = omega (arith, in-row t c)
@@ -199,7 +200,7 @@ walk-array-read-at t c = omega (arith, in-row t c)
 walk-entry-at-requires : (t : ℕ) → walk-lts.Need-entry-at-requires (knows t) (walk-at t) walk.Post walk-Inv-loop walk-μ-loop
 walk-entry-at-requires t c κs =
     let r = c .before .before .before in
-    let s = r .before .before .before .before in
+    let s = r .before .before .before .before .before .before .before in
     let a = s .args in (
       s .pre .1 .0 .0,
       passable-slot (a .level) (a .table .now) (a .slot) (s .pre .1 .0 .1),
@@ -209,10 +210,10 @@ walk-entry-at-requires t c κs =
 walk-add-i : (t : ℕ) → walk-lts.Need-add-i (knows t) (walk-at t) walk.Post walk-Inv-loop walk-μ-loop
 walk-add-i t c = search needs
 
-walk-hides-box-requires : (t : ℕ) → walk-lts.Need-hides-box-requires (knows t) (walk-at t) walk.Post walk-Inv-loop walk-μ-loop
-walk-hides-box-requires t c κs =
+walk-all-as-near-requires : (t : ℕ) → walk-lts.Need-all-as-near-requires (knows t) (walk-at t) walk.Post walk-Inv-loop walk-μ-loop
+walk-all-as-near-requires t c κs =
     let x = turn-here t (c .before .before .before) in
-    ((x .kept .room .xs, x .kept .room .ys, x .kept .room .squares), ((x .good .0, x .ready .grid, kept-grid (x .kept)), kept-square (x .kept)))
+    (kept-standing (x .ready .grid) (x .kept), x .good .0, x .ready .grid)
 
 walk-loop-less : (t : ℕ) → walk-lts.Need-loop-less (knows t) (walk-at t) walk.Post walk-Inv-loop walk-μ-loop
 walk-loop-less t c = search needs
@@ -222,10 +223,10 @@ walk-loop-again t c =
     let e = c .before .before .before .before .before in
     let x = turn-here t e in
     let l = e .before .before in
-    let a = l .before .before .before .before .before .before .args in
-    let r = rows (l .loop .numbers) (l .loop .xs) (l .loop .ys) (l .loop .squares) in (
+    let a = l .before .before .before .before .before .before .before .before .before .args in
+    let r = rows (l .loop .numbers) (l .loop .xs) (l .loop .ys) (l .loop .bars) in (
       omega (arith, e .before .loop-test .taken),
-      x .done _ _ (rw (enter-hidden (e .entry-at .result) (a .q) (a .k) r (l .loop .so-far) _ (c .before .hides-box .ensures) (walkOf (a .q) (a .k) (a .level - 1) (a .table .now)) (c .if2 .taken)) (noted-same (x .kept))),
+      x .done _ _ (rw (enter-hidden (e .entry-at .result) (a .q) (a .k) r (l .loop .so-far) _ (c .before .all-as-near .ensures) (walkOf (a .q) (a .k) (a .level - 1) (a .table .now)) (c .if2 .taken)) (noted-same (x .kept))),
       l .loop .inv .2,
       l .loop .inv .3,
       l .loop .inv .4,
@@ -238,11 +239,11 @@ walk-walk-requires t c κs =
     let e = f .before .before .before .before .before in
     let x = turn-here t e in
     let l = e .before .before in
-    let s = l .before .before .before .before .before .before in
+    let s = l .before .before .before .before .before .before .before .before .before in
     let a = s .args in
-    let r = rows (l .loop .numbers) (l .loop .xs) (l .loop .ys) (l .loop .squares) in (
+    let r = rows (l .loop .numbers) (l .loop .xs) (l .loop .ys) (l .loop .bars) in (
       omega (arith, s .pre .0, l .before .before .before .if1 .left),
-      ((s .pre .1 .0 .0, x .good .1), enter-ready (e .entry-at .result) (a .q) (a .k) r (l .loop .so-far) _ (f .before .hides-box .ensures) (walkOf (a .q) (a .k) (a .level - 1) (a .table .now)) (f .if2 .left) (x .ready)),
+      ((s .pre .1 .0 .0, x .good .1), enter-ready (e .entry-at .result) (a .q) (a .k) r (l .loop .so-far) _ (f .before .all-as-near .ensures) (walkOf (a .q) (a .k) (a .level - 1) (a .table .now)) (f .if2 .left) (x .ready)),
     )
 
 walk-loop-less-2 : (t : ℕ) → walk-lts.Need-loop-less-2 (knows t) (walk-at t) walk.Post walk-Inv-loop walk-μ-loop
@@ -250,14 +251,14 @@ walk-loop-less-2 t c = search needs
 
 walk-loop-again-2 : (t : ℕ) → walk-lts.Need-loop-again-2 (knows t) (walk-at t) walk.Post walk-Inv-loop walk-μ-loop
 walk-loop-again-2 t c =
-    let v = c .before .before .before .before .before in
+    let v = c .before .before .before .before .before .before .before .before in
     let f = v .before .before .before .before .before in
     let e = f .before .before .before .before .before in
     let l = e .before .before in
-    let a = l .before .before .before .before .before .before .args in
-    let r = rows (l .loop .numbers) (l .loop .xs) (l .loop .ys) (l .loop .squares) in (
+    let a = l .before .before .before .before .before .before .before .before .before .args in
+    let r = rows (l .loop .numbers) (l .loop .xs) (l .loop .ys) (l .loop .bars) in (
       omega (arith, e .before .loop-test .taken),
-      turn-here t e .done _ _ (rw (enter-open (e .entry-at .result) (a .q) (a .k) r (l .loop .so-far) _ (f .before .hides-box .ensures) (walkOf (a .q) (a .k) (a .level - 1) (a .table .now)) (f .if2 .left)) (v .walk .ensures)),
+      turn-here t e .done _ _ (rw (enter-open (e .entry-at .result) (a .q) (a .k) r (l .loop .so-far) _ (f .before .all-as-near .ensures) (walkOf (a .q) (a .k) (a .level - 1) (a .table .now)) (f .if2 .left)) (v .walk .ensures)),
       v .walk .kept .1 .1 .1 .1 .1 .0 ∙ l .loop .inv .2,
       v .walk .kept .1 .1 .1 .1 .1 .1 .0 ∙ l .loop .inv .3,
       v .walk .kept .1 .1 .1 .1 .1 .1 .1 .0 ∙ l .loop .inv .4,
@@ -281,9 +282,9 @@ walk-returns-2 t c =
     let l = c .before in
     let f = l .before .before .before in
     let o = f .before in
-    let a = o .before .before .args in
-    let first = rows (a .numbers .now) (a .xs .now) (a .ys .now) (a .squares .now) in
-    rw (walk-above (a .q) (a .k) (a .table .now) (a .slot) (a .level) (omega (arith, f .if1 .left)) (foundIn first (a .seen)))
+    let a = o .before .before .before .before .before .args in
+    let first = rows (a .numbers .now) (a .xs .now) (a .ys .now) (a .bars .now) in
+    rw (walk-above (a .q) (a .k) (a .table .now) (a .slot) (a .level) (omega (arith, f .if1 .left)) (foundIn (a .q) first (a .seen)))
     (rw (turns-end (turns-here t l) (l .loop .i) (omega (arith, c .loop-test .left, l .before .count-at .ensures)), o .opening .ensures) at (l .loop .inv .1))
 
 pub +walk-spec : {M : Type 1} → statement M
@@ -311,7 +312,7 @@ pub +walk-spec : {M : Type 1} → statement M
     (walk-array-read-at t)
     (walk-entry-at-requires t)
     (walk-add-i t)
-    (walk-hides-box-requires t)
+    (walk-all-as-near-requires t)
     (walk-loop-less t)
     (walk-loop-again t)
     (walk-walk-requires t)

@@ -20,43 +20,43 @@ use Rattle.filter.proofs.walk.visit_leaf.Statement.{statement}
 use Rattle.filter.proofs.walk.visit_leaf.Tie as tie
 
 abbrev Inv-loop : tie.InvT-loop
-Inv-loop table slot q k numbers₀ xs₀ ys₀ squares₀ row count so-far₀ i₀ numbers xs ys squares so-far i =
+Inv-loop table slot q k numbers₀ xs₀ ys₀ bars₀ row count so-far₀ i₀ numbers xs ys bars so-far i =
     (i ≤ count)
-    × Noted q (each (visited q k) (take i (nearestFirst q k (entriesAt table slot))) (foundIn (rows numbers₀ xs₀ ys₀ squares₀) so-far₀)) (rows numbers₀ xs₀ ys₀ squares₀) (rows numbers xs ys squares) so-far
-    × (length numbers ≡ length numbers₀) × (length xs ≡ length xs₀) × (length ys ≡ length ys₀) × (length squares ≡ length squares₀)
+    × Noted q (each (visited q k) (take i (nearestFirst q k (entriesAt table slot))) (foundIn q (rows numbers₀ xs₀ ys₀ bars₀) so-far₀)) (rows numbers₀ xs₀ ys₀ bars₀) (rows numbers xs ys bars) so-far
+    × (length numbers ≡ length numbers₀) × (length xs ≡ length xs₀) × (length ys ≡ length ys₀) × (length bars ≡ length bars₀)
 
 abbrev μ-loop : tie.MeasureT-loop
-μ-loop table slot q k numbers₀ xs₀ ys₀ squares₀ row count so-far₀ i₀ numbers xs ys squares so-far i = count - i
+μ-loop table slot q k numbers₀ xs₀ ys₀ bars₀ row count so-far₀ i₀ numbers xs ys bars so-far i = count - i
 
 -- the turn is that of one of the points
 in-node : (w : tie.In-loop Inv-loop μ-loop)
-    → let a = w .before .before .before .before .before .args in
+    → let a = w .before .before .before .before .before .before .before .before .args in
     w .before .loop .i < length (entriesAt (a .table .now) (a .slot))
 in-node w = omega (arith, w .loop-test .taken, w .before .before .count-at .ensures)
 
 -- what the turns rest on
 turns-here : (l : tie.At-loop Inv-loop μ-loop)
-    → let a = l .before .before .before .before .args in
-    Turns IsPoint (a .q) (a .k) (visited (a .q) (a .k)) (entriesAt (a .table .now) (a .slot)) (foundIn (rows (a .numbers .now) (a .xs .now) (a .ys .now) (a .squares .now)) (a .seen))
-    (rows (a .numbers .now) (a .xs .now) (a .ys .now) (a .squares .now))
+    → let a = l .before .before .before .before .before .before .before .args in
+    Turns IsPoint (a .q) (a .k) (visited (a .q) (a .k)) (entriesAt (a .table .now) (a .slot)) (foundIn (a .q) (rows (a .numbers .now) (a .xs .now) (a .ys .now) (a .bars .now)) (a .seen))
+    (rows (a .numbers .now) (a .xs .now) (a .ys .now) (a .bars .now))
 turns-here l =
-    let s = l .before .before .before .before in
+    let s = l .before .before .before .before .before .before .before in
     let a = s .args in
-    leaf-turns (a .q) (a .k) (entriesAt (a .table .now) (a .slot)) (rows (a .numbers .now) (a .xs .now) (a .ys .now) (a .squares .now)) (a .seen) (s .pre .0 .2) (s .pre .1)
+    leaf-turns (a .q) (a .k) (entriesAt (a .table .now) (a .slot)) (rows (a .numbers .now) (a .xs .now) (a .ys .now) (a .bars .now)) (a .seen) (s .pre .0 .2) (s .pre .1)
 
 turn-here : (e : tie.After-entry-at Inv-loop μ-loop)
     → let l = e .before .before in
-    let a = l .before .before .before .before .args in
-    Turn IsPoint (a .q) (a .k) (visited (a .q) (a .k)) (entriesAt (a .table .now) (a .slot)) (foundIn (rows (a .numbers .now) (a .xs .now) (a .ys .now) (a .squares .now)) (a .seen))
-    (rows (a .numbers .now) (a .xs .now) (a .ys .now) (a .squares .now)) (l .loop .i) (e .entry-at .result)
-    (rows (l .loop .numbers) (l .loop .xs) (l .loop .ys) (l .loop .squares)) (l .loop .so-far)
+    let a = l .before .before .before .before .before .before .before .args in
+    Turn IsPoint (a .q) (a .k) (visited (a .q) (a .k)) (entriesAt (a .table .now) (a .slot)) (foundIn (a .q) (rows (a .numbers .now) (a .xs .now) (a .ys .now) (a .bars .now)) (a .seen))
+    (rows (a .numbers .now) (a .xs .now) (a .ys .now) (a .bars .now)) (l .loop .i) (e .entry-at .result)
+    (rows (l .loop .numbers) (l .loop .xs) (l .loop .ys) (l .loop .bars)) (l .loop .so-far)
 turn-here e =
     let l = e .before .before in
     turn (turns-here l) (l .loop .i) (l .before .before .nearest .ensures) (in-node (e .before)) (e .entry-at .ensures) (l .loop .inv .1)
 
 nearest-requires : tie.Need-nearest-requires Inv-loop μ-loop
 nearest-requires c κs =
-    let s = c .before in
+    let s = c .before .before .before .before in
     let es = entriesAt (s .args .table .now) (s .args .slot) in (
       (s .pre .0 .0, s .pre .0 .1, s .pre .1 .grid),
       all-then (λ e. isPoint e ≡ true) (λ e. RectOnGrid (e .rect)) (λ e h. point-upright (point e h) .grid) es (s .pre .0 .2),
@@ -64,26 +64,26 @@ nearest-requires c κs =
 
 count-at-requires : tie.Need-count-at-requires Inv-loop μ-loop
 count-at-requires c κs =
-    let s = c .before .before in
+    let s = c .before .before .before .before .before in
     (s .pre .0 .0, s .pre .0 .1)
 
 loop-holds : tie.Need-loop-holds Inv-loop μ-loop
-loop-holds c = (omega arith, noted-same (c .before .before .before .pre .1 .kept), refl, refl, refl, refl)
+loop-holds c = (omega arith, noted-same (c .before .before .before .before .before .before .pre .1 .kept), refl, refl, refl, refl)
 
 mul-at : tie.Need-mul-at Inv-loop μ-loop
 mul-at c =
-    let a = c .before .before .before .before .before .args in
+    let a = c .before .before .before .before .before .before .before .before .args in
     omega (arith, in-node c, page-few (a .table .now) (a .slot))
 
 array-read-at : tie.Need-array-read-at Inv-loop μ-loop
 array-read-at c =
-    let a = c .before .before .before .before .before .args in
+    let a = c .before .before .before .before .before .before .before .before .args in
     omega (arith, in-node c, page-few (a .table .now) (a .slot))
 
 entry-at-requires : tie.Need-entry-at-requires Inv-loop μ-loop
 entry-at-requires c κs =
     let r = c .before .before .before in
-    let s = r .before .before in
+    let s = r .before .before .before .before .before in
     let a = s .args in
     (s .pre .0 .0, s .pre .0 .1, taken-below (entriesAt (a .table .now) (a .slot)) (a .q) (a .k) (r .nearest .result) (r .nearest .ensures) (c .before .loop .i) (in-node c))
 
@@ -100,7 +100,7 @@ loop-less c = search needs
 
 loop-again : tie.Need-loop-again Inv-loop μ-loop
 loop-again c =
-    let v = c .before .before .before .before .before in
+    let v = c .before .before .before .before .before .before .before .before in
     let e = v .before .before .before .before .before in
     let l = e .before .before in (
       omega (arith, e .before .loop-test .taken),

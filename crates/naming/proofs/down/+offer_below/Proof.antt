@@ -159,7 +159,7 @@ nearest-requires t c κs =
     let a = s .args in
     let es = entriesAt (a .table .now) (a .slot) in (
       (s .pre .1 .0 .0, passable-slot (a .level) (a .table .now) (a .slot) (s .pre .1 .0 .2), s .pre .1 .0 .1),
-      all-then (IsChild (a .table .now) (a .level - 1)) (λ e. RectOnGrid (e .rect)) (λ e h. h .0) es
+      all-then (IsChild (a .table .now) (a .level - 1)) (λ e. RectOnGrid (e .rect)) (λ e h. h .0 .grid) es
           (passable-above (a .table .now) (a .slot) (a .level) (omega (arith, c .if1 .left)) (s .pre .1 .0 .2)),
     )
 
@@ -192,7 +192,7 @@ entry-at-requires t c κs =
 least-square-requires : (t : ℕ) → lts.Need-least-square-requires (knows t) (here t) offer-below.Post Inv-loop μ-loop
 least-square-requires t c κs =
     let e = c .before in
-    (child-here t e .0 .0, e .before .before .before .before .before .before .before .pre .1 .0 .1)
+    (child-here t e .0 .0 .grid, e .before .before .before .before .before .before .before .pre .1 .0 .1)
 
 is-beyond-requires : (t : ℕ) → lts.Need-is-beyond-requires (knows t) (here t) offer-below.Post Inv-loop μ-loop
 is-beyond-requires t c κs =

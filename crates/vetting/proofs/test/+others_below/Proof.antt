@@ -161,7 +161,7 @@ add-i : (t : ℕ) → lts.Need-add-i (knows t) (here t) others-below.Post Inv-lo
 add-i t c = search needs
 
 least-square-requires : (t : ℕ) → lts.Need-least-square-requires (knows t) (here t) others-below.Post Inv-loop μ-loop
-least-square-requires t c κs = (child-here t c .0 .0, c .before .before .before .before .before .before .pre .1 .0 .1)
+least-square-requires t c κs = (child-here t c .0 .0 .grid, c .before .before .before .before .before .before .pre .1 .0 .1)
 
 is-as-near-requires : (t : ℕ) → lts.Need-is-as-near-requires (knows t) (here t) others-below.Post Inv-loop μ-loop
 is-as-near-requires t c κs = tt
