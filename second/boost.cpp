@@ -130,11 +130,12 @@ int main(int arguments, char **argument)
     std::uint64_t state = 42;
     std::vector<std::int32_t> table(ULLAGRETH_WORDS), numbers;
     std::vector<Station> all;
+    std::int32_t fault[2]; // rule and slot of a bad table, which this is not
     ullagreth_empty(table.data());
     const auto coordinate = [&] { return std::int32_t(next(state) % (2 * ULLAGRETH_REACH + 1)) - ULLAGRETH_REACH; };
     while (all.size() < STATIONS) {
         const std::int32_t x = coordinate(), y = coordinate(), number = std::int32_t(next(state) % ULLAGRETH_HIGHEST_NUMBER) + 1;
-        if (ullagreth_enrol(table.data(), table.size(), number, x, y) == ULLAGRETH_DONE) {
+        if (ullagreth_enrol(table.data(), table.size(), number, x, y, fault, 2) == ULLAGRETH_DONE) {
             all.push_back({number, x, y});
             numbers.push_back(number);
         }
@@ -142,7 +143,7 @@ int main(int arguments, char **argument)
 
     std::vector<Way> proved, inserted, packed;
     proved.push_back({"proved", [&](Row &row) {
-        if (ullagreth_cards(table.data(), table.size(), numbers.data(), numbers.size(), k, row.data(), row.size()) != ULLAGRETH_DONE)
+        if (ullagreth_cards(table.data(), table.size(), numbers.data(), numbers.size(), k, row.data(), row.size(), fault, 2) != ULLAGRETH_DONE)
             fail("the table was refused");
     }});
     add_trees<double, bgi::rstar<NODE>>(inserted, packed, "rstar of double", all, k);

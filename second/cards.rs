@@ -4,7 +4,8 @@ use crate::card::{card, Holder, MOST_K};
 use crate::flat::Flat;
 use crate::random::Random;
 use crate::table::Table;
-use crate::{check, damaged, library, seconds};
+use crate::wreck::damaged;
+use crate::{check, library, seconds};
 use std::hint::black_box;
 
 /// What no call writes.

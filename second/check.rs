@@ -1,130 +1,164 @@
-//! Document 01's rules 1 to 7, read off the words of any slice.
+//! Document 01's rules 1 to 7, read off the words of any slice; and where they are broken, as 02 §4 says it. Every broken place of every rule is
+//! collected, and the least is given: nothing stops at a first one.
 
 use crate::table::{on_grid, FAN, LEAST, LENGTH, MOST, SLOTS, WIDTH};
 
+/// Where the two header words are, below all slots.
+pub const HEADER: i32 = -1;
+
+/// A rule, and a slot where it is broken.
+pub type Fault = [i32; 2];
+
 /// 0 well formed, 1 wrong length, 2 not well formed.
 pub fn check(w: &[i32]) -> i32 {
-    match broken(w) {
-        None => 0,
-        Some(0) => 1,
-        Some(_) => 2,
+    judged(w).0
+}
+
+/// The number, and with 2 the lowest rule that is broken and the lowest slot where it is; 0 and 0 with 0 and 1.
+pub fn judged(w: &[i32]) -> (i32, Fault) {
+    if w.len() != LENGTH {
+        return (1, [0, 0]);
+    }
+    match faults(w).into_iter().min() {
+        None => (0, [0, 0]),
+        Some(least) => (2, least),
     }
 }
 
-struct View<'a>(&'a [i32]);
-
-impl View<'_> {
-    fn level(&self, s: usize) -> i32 {
-        self.0[2 + WIDTH * s]
-    }
-    fn free(&self, s: usize) -> bool {
-        self.level(s) == -1
-    }
-    fn said(&self, s: usize) -> i32 {
-        self.0[3 + WIDTH * s]
-    }
-    fn entry(&self, s: usize, i: usize) -> &[i32] {
-        let b = 2 + WIDTH * s + 2 + 5 * i;
-        &self.0[b..b + 5]
-    }
-    fn entries(&self, s: usize) -> Vec<&[i32]> {
-        (0..self.said(s) as usize).map(|i| self.entry(s, i)).collect()
-    }
+/// Each rule with each slot where it is broken. A rule is judged also where an earlier one is broken, as far as its words still say something: what it
+/// finds there decides nothing, for the earlier one is less.
+pub fn faults(w: &[i32]) -> Vec<Fault> {
+    let v = View(w);
+    let rules = [v.litter(), v.header(), v.sizes(), v.points(), v.children(), v.boxes(), v.references()];
+    (1..).zip(rules).flat_map(|(rule, slots)| slots.into_iter().map(move |slot| [rule, slot])).collect()
 }
 
 /// Every point of a well-formed table, read off its words: number, x, y.
 pub fn stations(w: &[i32]) -> Vec<(i32, i64, i64)> {
     let v = View(w);
-    (0..SLOTS).filter(|&s| v.level(s) == 0).flat_map(|s| v.entries(s)).map(|e| (e[0], i64::from(e[1]), i64::from(e[2]))).collect()
+    v.leaves().into_iter().flat_map(|s| v.entries(s)).map(|e| (e[0], i64::from(e[1]), i64::from(e[2]))).collect()
 }
 
-/// The lowest-numbered rule that is broken; 0 for a wrong length.
-pub fn broken(w: &[i32]) -> Option<u32> {
-    if w.len() != LENGTH {
-        return Some(0);
+struct View<'a>(&'a [i32]);
+
+impl<'a> View<'a> {
+    fn slot(&self, s: usize) -> &'a [i32] {
+        &self.0[2 + WIDTH * s..2 + WIDTH * (s + 1)]
     }
-    let v = View(w);
-    let all = 0..SLOTS;
-    let used: Vec<usize> = all.clone().filter(|&s| !v.free(s)).collect();
-    // 1
-    for s in all.clone() {
-        let part = &w[2 + WIDTH * s..2 + WIDTH * (s + 1)];
-        let from = if part[0] == -1 {
-            1
-        } else if (0..=FAN as i32).contains(&part[1]) {
-            2 + 5 * part[1] as usize
-        } else {
-            WIDTH
-        };
-        if part[from..].iter().any(|&x| x != 0) {
-            return Some(1);
+
+    fn level(&self, s: usize) -> i32 {
+        self.slot(s)[0]
+    }
+
+    fn said(&self, s: usize) -> i32 {
+        self.slot(s)[1]
+    }
+
+    /// As many as the slot says; none if it says a number that rule 3 forbids every slot.
+    fn entries(&self, s: usize) -> Vec<&'a [i32]> {
+        let n = if (0..=FAN as i32).contains(&self.said(s)) { self.said(s) as usize } else { 0 };
+        self.slot(s)[2..].chunks_exact(5).take(n).collect()
+    }
+
+    fn those(&self, is: impl Fn(i32) -> bool) -> Vec<usize> {
+        (0..SLOTS).filter(|&s| is(self.level(s))).collect()
+    }
+
+    fn used(&self) -> Vec<usize> {
+        self.those(|level| level != -1)
+    }
+
+    fn leaves(&self) -> Vec<usize> {
+        self.those(|level| level == 0)
+    }
+
+    /// The slots above the leaves that have an entry of a kind.
+    fn above_with(&self, is: impl Fn(usize, &[i32]) -> bool) -> Vec<i32> {
+        numbered(self.those(|level| level > 0), |s| self.entries(s).into_iter().any(|e| is(s, e)))
+    }
+
+    /// Rule 1, by the slots that break it: words that must be zero and are not.
+    fn litter(&self) -> Vec<i32> {
+        numbered((0..SLOTS).collect(), |s| {
+            let from = match (self.level(s), self.said(s)) {
+                (-1, _) => 1,
+                (_, n) if (0..=FAN as i32).contains(&n) => 2 + 5 * n as usize,
+                _ => WIDTH,
+            };
+            self.slot(s)[from..].iter().any(|&x| x != 0)
+        })
+    }
+
+    /// Rule 2, of the header alone: also where the slots have a part in it.
+    fn header(&self) -> Vec<i32> {
+        let (root, points) = (self.0[0], self.0[1]);
+        let empty = root == -1 && points == 0 && self.used().is_empty();
+        let rooted = self.used().iter().any(|&s| s as i32 == root) && (1..=MOST as i32).contains(&points);
+        if empty || rooted { vec![] } else { vec![HEADER] }
+    }
+
+    /// Rule 3: levels and numbers of entries.
+    fn sizes(&self) -> Vec<i32> {
+        numbered(self.used(), |s| {
+            let least = match (s as i32 == self.0[0], self.level(s)) {
+                (true, 0) => 1,
+                (true, _) => 2,
+                (false, _) => LEAST as i32,
+            };
+            self.level(s) < 0 || !(least..=FAN as i32).contains(&self.said(s))
+        })
+    }
+
+    /// Rule 4: points that are none, and of those with one number all but the first by slot and place. Put in order by number, slot and place, a
+    /// later one stands right behind an earlier one.
+    fn points(&self) -> Vec<i32> {
+        let is_none = |e: &[i32]| !(1..=9999).contains(&e[0]) || e[1] != e[3] || e[2] != e[4] || !on_grid(e[1]) || !on_grid(e[2]);
+        let mut broken = numbered(self.leaves(), |s| self.entries(s).into_iter().any(is_none));
+        let mut all: Vec<(i32, usize, usize)> = vec![];
+        for s in self.leaves() {
+            all.extend(self.entries(s).iter().enumerate().map(|(place, e)| (e[0], s, place)));
         }
+        all.sort();
+        broken.extend(all.windows(2).filter(|two| two[0].0 == two[1].0).map(|two| two[1].1 as i32));
+        broken
     }
-    // 2
-    let empty = w[0] == -1 && w[1] == 0 && used.is_empty();
-    let root_used = (0..SLOTS as i32).contains(&w[0]) && !v.free(w[0] as usize) && (1..=MOST as i32).contains(&w[1]);
-    if !empty && !root_used {
-        return Some(2);
+
+    /// Rule 5, by the slot of the entry.
+    fn children(&self) -> Vec<i32> {
+        self.above_with(|s, e| child(e).is_none_or(|c| self.level(c) == -1 || self.level(c) != self.level(s) - 1))
     }
-    // 3
-    for &s in &used {
-        let least = if s as i32 == w[0] {
-            if v.level(s) == 0 {
-                1
-            } else {
-                2
-            }
-        } else {
-            LEAST as i32
-        };
-        if v.level(s) < 0 || !(least..=FAN as i32).contains(&v.said(s)) {
-            return Some(3);
+
+    /// Rule 6, by the slot of the entry; a child that is no slot has no boxes, and has broken rule 5.
+    fn boxes(&self) -> Vec<i32> {
+        self.above_with(|_, e| {
+            let below = child(e).map_or(vec![], |c| self.entries(c));
+            let low = |j: usize| below.iter().map(|b| b[j]).min();
+            let high = |j: usize| below.iter().map(|b| b[j]).max();
+            [low(1), low(2), high(3), high(4)] != [e[1], e[2], e[3], e[4]].map(Some)
+        })
+    }
+
+    /// Rule 7: the slots that are not referred to as often as they must be; and the header, if word 1 is not the number of leaf entries.
+    fn references(&self) -> Vec<i32> {
+        let mut times = [0; SLOTS];
+        for s in self.those(|level| level > 0) {
+            self.entries(s).into_iter().filter_map(child).for_each(|c| times[c] += 1);
         }
-    }
-    // 4
-    let mut seen = vec![false; 10_000];
-    for &s in used.iter().filter(|&&s| v.level(s) == 0) {
-        for e in v.entries(s) {
-            if !(1..=9999).contains(&e[0]) || e[1] != e[3] || e[2] != e[4] || !on_grid(e[1]) || !on_grid(e[2]) {
-                return Some(4);
-            }
-            if std::mem::replace(&mut seen[e[0] as usize], true) {
-                return Some(4);
-            }
+        let mut broken = numbered(self.used(), |s| times[s] != i32::from(s as i32 != self.0[0]));
+        let points: usize = self.leaves().into_iter().map(|s| self.entries(s).len()).sum();
+        if points as i32 != self.0[1] {
+            broken.push(HEADER);
         }
+        broken
     }
-    // 5
-    for &s in used.iter().filter(|&&s| v.level(s) > 0) {
-        for e in v.entries(s) {
-            if !(0..SLOTS as i32).contains(&e[0]) || v.free(e[0] as usize) || v.level(e[0] as usize) != v.level(s) - 1 {
-                return Some(5);
-            }
-        }
-    }
-    // 6
-    for &s in used.iter().filter(|&&s| v.level(s) > 0) {
-        for e in v.entries(s) {
-            let below = v.entries(e[0] as usize);
-            let low = |j: usize| below.iter().map(|b| b[j]).min().unwrap();
-            let high = |j: usize| below.iter().map(|b| b[j]).max().unwrap();
-            if [low(1), low(2), high(3), high(4)] != [e[1], e[2], e[3], e[4]] {
-                return Some(6);
-            }
-        }
-    }
-    // 7
-    let mut times = [0; SLOTS];
-    let mut points = 0;
-    for &s in &used {
-        if v.level(s) == 0 {
-            points += v.said(s);
-        } else {
-            v.entries(s).iter().for_each(|e| times[e[0] as usize] += 1);
-        }
-    }
-    let wrong = used.iter().any(|&s| times[s] != i32::from(s as i32 != w[0]));
-    if wrong || points != w[1] {
-        return Some(7);
-    }
-    None
+}
+
+/// Those of some slots that are of a kind, as the table's words number them.
+fn numbered(slots: Vec<usize>, is: impl Fn(usize) -> bool) -> Vec<i32> {
+    slots.into_iter().filter(|&s| is(s)).map(|s| s as i32).collect()
+}
+
+/// The slot that an entry above the leaves refers to, if it is one.
+fn child(e: &[i32]) -> Option<usize> {
+    usize::try_from(e[0]).ok().filter(|&c| c < SLOTS)
 }

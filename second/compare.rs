@@ -5,6 +5,8 @@
 mod card;
 mod cards;
 mod check;
+mod checks;
+mod damage;
 mod flat;
 mod library;
 mod newcomer;
@@ -16,6 +18,7 @@ mod sheets;
 mod table;
 #[path = "../bindings/rust/ullagreth.rs"]
 mod ullagreth;
+mod wreck;
 
 use library::Lists;
 use random::Random;
@@ -27,7 +30,7 @@ fn main() {
     let args: Vec<String> = std::env::args().collect();
     let seeds: u64 = args.get(2).and_then(|s| s.parse().ok()).unwrap_or(1);
     match args.get(1).map(String::as_str) {
-        Some("check") => checks(seeds),
+        Some("check") => checks::checks(seeds),
         Some("changes") => changes(seeds),
         Some("queries") => queries(seeds),
         Some("cards") => cards::cards(seeds),
@@ -50,49 +53,6 @@ fn random_table(r: &mut Random, habit: u64, most: i64) -> Table {
         t.enrol(r.between(1, 9999) as i32, x, y);
     }
     t
-}
-
-/// A table with a word or two changed at random.
-fn damaged(r: &mut Random, whole: &[i32]) -> Vec<i32> {
-    let mut w = whole.to_vec();
-    for _ in 0..r.between(1, 2) {
-        // Mostly near the used slots, where a change is seldom harmless.
-        let at = if r.below(8) == 0 { r.below(w.len() as u64) } else { r.below(2 + 42 * 40) } as usize;
-        w[at] = match r.below(6) {
-            0 => w[at].wrapping_add(1),
-            1 => w[at].wrapping_sub(1),
-            2 => -1,
-            3 => 0,
-            4 => r.between(-3, 300) as i32,
-            _ => r.next() as i32,
-        };
-    }
-    w
-}
-
-// ---- the check: random tables, whole, with a few random words changed, or of another length
-
-fn checks(seeds: u64) {
-    let (mut tables, mut bad) = (0, 0);
-    for seed in 0..seeds {
-        let mut r = Random(seed);
-        let t = random_table(&mut r, seed, 120);
-        let whole = t.words();
-        assert_eq!(library::check(&whole), 0, "seed {seed}");
-        for _ in 0..200 {
-            let mut w = damaged(&mut r, &whole);
-            if r.below(20) == 0 {
-                w.truncate(r.below(w.len() as u64) as usize);
-            }
-            let before = w.clone();
-            let want = check::check(&w);
-            assert_eq!(library::check(&w), want, "seed {seed}");
-            assert_eq!(w, before);
-            tables += 1;
-            bad += usize::from(want != 0);
-        }
-    }
-    println!("check: {tables} tables agree, {bad} of them bad");
 }
 
 // ---- enrolments and withdrawals: every word after every call

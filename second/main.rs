@@ -51,9 +51,11 @@ fn box_is_discarded() {
     }
 }
 
-/// The walk's answers are those of every pair, a card's names are the same by a sort and by a scan, and each table on the way is well formed.
+/// The tables made by hand are bad where they say; the walk's answers are those of every pair, a card's names are the same by a sort and by a scan,
+/// and each table on the way is well formed.
 fn selftest() {
     box_is_discarded();
+    let by_hand = damage::agreed();
     let mut r = random::Random(1);
     let (mut queries, mut cards) = (0, 0);
     for round in 0..60 {
@@ -82,5 +84,6 @@ fn selftest() {
             }
         }
     }
+    println!("second: {by_hand} tables made by hand are judged as they must be, number, rule and slot");
     println!("second: {queries} queries agree with the count of every pair, {cards} cards by a sort with those by a scan");
 }

@@ -38,6 +38,42 @@ static struct ullagreth_candidate list[MOST];
 static uint32_t answers[MOST];
 static uint64_t counts[4];
 
+/* The row for rule and slot, with a place more; and the two that it is to tell with refusal 2, which each test of a bad table sets. */
+enum { FAULT = 3 };
+static int32_t fault[FAULT], rule, slot;
+
+/* The row, marked. */
+static int32_t *unsaid(void)
+{
+    for (size_t i = 0; i < FAULT; i++)
+        fault[i] = MARK;
+    return fault;
+}
+
+/* The number of a call that was lent the marked row: rule and slot with 2, 0 and 0 with any other, and the third place stays. */
+static uint8_t told(uint8_t number)
+{
+    SAME(fault[0], number == ULLAGRETH_NOT_WELL_FORMED ? rule : 0);
+    SAME(fault[1], number == ULLAGRETH_NOT_WELL_FORMED ? slot : 0);
+    SAME(fault[2], MARK);
+    return number;
+}
+
+static uint8_t check(size_t words)
+{
+    return told(ullagreth_check(table, words, unsaid(), FAULT));
+}
+
+static uint8_t enrol(size_t words, int32_t number, int32_t x, int32_t y)
+{
+    return told(ullagreth_enrol(table, words, number, x, y, unsaid(), FAULT));
+}
+
+static uint8_t withdraw(size_t words, int32_t number)
+{
+    return told(ullagreth_withdraw(table, words, number, unsaid(), FAULT));
+}
+
 static void save(void)
 {
     memcpy(before, table, sizeof table);
@@ -74,7 +110,7 @@ static uint8_t ask(size_t words, int32_t x, int32_t y, int32_t k, size_t room, s
     for (size_t i = 0; i < 4; i++)
         counts[i] = MARK;
     save();
-    return ullagreth_query(table, words, x, y, k, list, room, answers, places, counts, 4);
+    return told(ullagreth_query(table, words, x, y, k, list, room, answers, places, counts, 4, unsaid(), FAULT));
 }
 
 struct point {
@@ -133,8 +169,8 @@ static void refused_for_answers(const struct query *q, const struct point *point
 static void enrol_all(const struct point *points, size_t n)
 {
     for (size_t i = 0; i < n; i++)
-        SAME(ullagreth_enrol(table, WORDS, points[i].number, points[i].x, points[i].y), ULLAGRETH_DONE);
-    SAME(ullagreth_check(table, WORDS), ULLAGRETH_DONE);
+        SAME(enrol(WORDS, points[i].number, points[i].x, points[i].y), ULLAGRETH_DONE);
+    SAME(check(WORDS), ULLAGRETH_DONE);
 }
 
 static void try_queries(const struct query *queries, size_t n, const struct point *points)
@@ -154,13 +190,13 @@ static void empty_table(void)
 {
     static const struct query none = {5, 0, 1, 0, 0, 0, {0}, {0}};
     ullagreth_empty(table);
-    SAME(ullagreth_check(table, WORDS), ULLAGRETH_DONE);
+    SAME(check(WORDS), ULLAGRETH_DONE);
     granted(&none, NULL);
     /* It has no points, so that lists of no places are long enough. */
     SAME(ask(WORDS, 5, 0, 1, 0, 0), ULLAGRETH_DONE);
     SAME(counts[0] + counts[1] + counts[2], 0);
     SAME(ask(WORDS, 5, 0, 17, 0, 0), ULLAGRETH_NO_SUCH_K);
-    SAME(ullagreth_withdraw(table, WORDS, 1), ULLAGRETH_NOT_ENROLLED);
+    SAME(withdraw(WORDS, 1), ULLAGRETH_NOT_ENROLLED);
     SAME(stays(), 1);
 }
 
@@ -210,6 +246,14 @@ static void nine(struct point *points)
     enrol_all(points, 9);
 }
 
+/* Word 1 says ten: rule 7, in the header. */
+static void count_one_too_many(void)
+{
+    table[1] = 10;
+    rule = 7;
+    slot = ULLAGRETH_HEADER;
+}
+
 /* Every word of the nine points' table: slot 0 holds 1 to 4, slot 1 holds 5 to 9, the root is slot 2. */
 static void words_of_nine(int32_t *words)
 {
@@ -246,8 +290,8 @@ static void nine_points(void)
     SAME(ask(WORDS, 35, 0, 2, 8, 2), ULLAGRETH_FEW_CANDIDATES);
     /* Withdrawn one after the other, they leave the empty table. */
     for (int32_t i = 1; i <= 9; i++) {
-        SAME(ullagreth_withdraw(table, WORDS, i), ULLAGRETH_DONE);
-        SAME(ullagreth_check(table, WORDS), ULLAGRETH_DONE);
+        SAME(withdraw(WORDS, i), ULLAGRETH_DONE);
+        SAME(check(WORDS), ULLAGRETH_DONE);
     }
     ullagreth_empty(wanted);
     SAME(memcmp(table, wanted, sizeof wanted), 0);
@@ -259,7 +303,7 @@ static void short_counts(void)
     uint64_t two[] = {MARK, MARK};
     struct point points[9];
     nine(points);
-    SAME(ullagreth_query(table, WORDS, -10, 0, 1, list, MOST, answers, MOST, two, 2), ULLAGRETH_DONE);
+    SAME(told(ullagreth_query(table, WORDS, -10, 0, 1, list, MOST, answers, MOST, two, 2, unsaid(), FAULT)), ULLAGRETH_DONE);
     SAME(two[0] == MARK && two[1] == MARK, 1);
 }
 
@@ -276,14 +320,14 @@ static void query_refused(uint8_t number, size_t words, int32_t x, int32_t y, in
 static void enrol_refused(uint8_t number, size_t words, int32_t point, int32_t x, int32_t y)
 {
     save();
-    SAME(ullagreth_enrol(table, words, point, x, y), number);
+    SAME(enrol(words, point, x, y), number);
     SAME(stays(), 1);
 }
 
 static void withdraw_refused(uint8_t number, size_t words, int32_t point)
 {
     save();
-    SAME(ullagreth_withdraw(table, words, point), number);
+    SAME(withdraw(words, point), number);
     SAME(stays(), 1);
 }
 
@@ -293,15 +337,15 @@ static void tables_refused(void)
     struct point points[9];
     nine(points);
     table[WORDS] = 0;
-    /* Word 1 counts a point too many: well formed no more, and of a wrong length that is not asked. */
-    table[1] = 10;
+    /* Well formed no more, and of a wrong length that is not asked. */
+    count_one_too_many();
     for (size_t i = 0; i < LENGTH(lengths); i++) {
-        SAME(ullagreth_check(table, lengths[i]), ULLAGRETH_WRONG_LENGTH);
+        SAME(check(lengths[i]), ULLAGRETH_WRONG_LENGTH);
         enrol_refused(ULLAGRETH_WRONG_LENGTH, lengths[i], 0, REACH + 1, 0);
         withdraw_refused(ULLAGRETH_WRONG_LENGTH, lengths[i], 0);
         query_refused(ULLAGRETH_WRONG_LENGTH, lengths[i], REACH + 1, 0, 0, 0);
     }
-    SAME(ullagreth_check(table, WORDS), ULLAGRETH_NOT_WELL_FORMED);
+    SAME(check(WORDS), ULLAGRETH_NOT_WELL_FORMED);
     enrol_refused(ULLAGRETH_NOT_WELL_FORMED, WORDS, 0, REACH + 1, 0);
     withdraw_refused(ULLAGRETH_NOT_WELL_FORMED, WORDS, 0);
     query_refused(ULLAGRETH_NOT_WELL_FORMED, WORDS, REACH + 1, 0, 0, 0);
@@ -333,10 +377,10 @@ static void changes_refused(void)
     static const int32_t numbers[] = {0, 10000, -1, INT32_MAX, INT32_MIN};
     static const int32_t off[] = {REACH + 1, -REACH - 1, INT32_MAX, INT32_MIN};
     ullagreth_empty(table);
-    SAME(ullagreth_enrol(table, WORDS, 1, REACH, -REACH), ULLAGRETH_DONE);
-    SAME(ullagreth_enrol(table, WORDS, 9999, -REACH, REACH), ULLAGRETH_DONE);
+    SAME(enrol(WORDS, 1, REACH, -REACH), ULLAGRETH_DONE);
+    SAME(enrol(WORDS, 9999, -REACH, REACH), ULLAGRETH_DONE);
     for (int32_t i = 2; i < 500; i++)
-        SAME(ullagreth_enrol(table, WORDS, i, 37 * i % 1000, 91 * i % 1000), ULLAGRETH_DONE);
+        SAME(enrol(WORDS, i, 37 * i % 1000, 91 * i % 1000), ULLAGRETH_DONE);
     for (size_t i = 0; i < LENGTH(numbers); i++) {
         enrol_refused(ULLAGRETH_NO_SUCH_NUMBER, WORDS, numbers[i], REACH + 1, 0);
         withdraw_refused(ULLAGRETH_NO_SUCH_NUMBER, WORDS, numbers[i]);
@@ -349,14 +393,20 @@ static void changes_refused(void)
     enrol_refused(ULLAGRETH_FULL, WORDS, 500, 0, 0);
     withdraw_refused(ULLAGRETH_NOT_ENROLLED, WORDS, 500);
     /* With one withdrawn there is room again. */
-    SAME(ullagreth_withdraw(table, WORDS, 9999), ULLAGRETH_DONE);
+    SAME(withdraw(WORDS, 9999), ULLAGRETH_DONE);
     withdraw_refused(ULLAGRETH_NOT_ENROLLED, WORDS, 9999);
-    SAME(ullagreth_enrol(table, WORDS, 500, 0, 0), ULLAGRETH_DONE);
-    SAME(ullagreth_check(table, WORDS), ULLAGRETH_DONE);
+    SAME(enrol(WORDS, 500, 0, 0), ULLAGRETH_DONE);
+    SAME(check(WORDS), ULLAGRETH_DONE);
     SAME(table[1], MOST);
 }
 
 /* ---- many places at once */
+
+/* Five places across, four up. */
+static uint8_t sites(size_t words, const int32_t *xs, const int32_t *ys, int32_t k, uint32_t *found, size_t places)
+{
+    return told(ullagreth_sites(table, words, xs, 5, ys, 4, k, found, places, unsaid(), FAULT));
+}
 
 static void many_places(void)
 {
@@ -368,20 +418,20 @@ static void many_places(void)
     for (int32_t k = 0; k <= 17; k++) {
         for (size_t i = 0; i < 5; i++)
             found[i] = MARK;
-        SAME(ullagreth_sites(table, WORDS, xs, 5, ys, 4, k, found, 5), ULLAGRETH_DONE);
+        SAME(sites(WORDS, xs, ys, k, found, 5), ULLAGRETH_DONE);
         for (size_t i = 0; i < 4; i++)
             SAME(found[i], ask(WORDS, xs[i], ys[i], k, MOST, MOST) == ULLAGRETH_DONE ? counts[0] : 0);
         SAME(found[4], MARK);
     }
-    SAME(ullagreth_sites(table, WORDS, xs, 5, ys, 4, 2, found, 1), ULLAGRETH_DONE);
+    SAME(sites(WORDS, xs, ys, 2, found, 1), ULLAGRETH_DONE);
     SAME(found[0], 1);
     SAME(found[4], MARK);
     /* A refused table, by the check's number. */
     found[0] = MARK;
-    SAME(ullagreth_sites(table, WORDS - 1, xs, 5, ys, 4, 1, found, 5), ULLAGRETH_WRONG_LENGTH);
+    SAME(sites(WORDS - 1, xs, ys, 1, found, 5), ULLAGRETH_WRONG_LENGTH);
     SAME(stays(), 1);
-    table[1] = 10;
-    SAME(ullagreth_sites(table, WORDS, xs, 5, ys, 4, 1, found, 5), ULLAGRETH_NOT_WELL_FORMED);
+    count_one_too_many();
+    SAME(sites(WORDS, xs, ys, 1, found, 5), ULLAGRETH_NOT_WELL_FORMED);
     SAME(found[0], MARK);
 }
 
@@ -406,7 +456,7 @@ static uint8_t ask_card(size_t words, int32_t number, int32_t k, size_t places)
         names[i] = MARK;
     how_many[0] = how_many[1] = MARK;
     save();
-    return ullagreth_card(table, words, number, k, names, places, how_many, 2);
+    return told(ullagreth_card(table, words, number, k, names, places, how_many, 2, unsaid(), FAULT));
 }
 
 /* A card and what is wanted: how many names, and the names in card order. */
@@ -452,10 +502,10 @@ static void cards_of_few(void)
     enrol_all(points + 3, 1);
     try_cards(of_four, LENGTH(of_four));
     /* With 2 enrolled after 4, it stands behind 4 in the leaf: the cards are the same. */
-    SAME(ullagreth_withdraw(table, WORDS, 2), ULLAGRETH_DONE);
+    SAME(withdraw(WORDS, 2), ULLAGRETH_DONE);
     enrol_all(points + 1, 1);
     try_cards(of_four, LENGTH(of_four));
-    SAME(ullagreth_withdraw(table, WORDS, 4), ULLAGRETH_DONE);
+    SAME(withdraw(WORDS, 4), ULLAGRETH_DONE);
     try_cards(of_three, LENGTH(of_three));
 }
 
@@ -475,7 +525,7 @@ static void cards_of_nine(void)
     try_cards(cards, LENGTH(cards));
     /* A row of no places for how many stays as it was. */
     how_many[0] = MARK;
-    SAME(ullagreth_card(table, WORDS, 5, 1, names, MOST_K, how_many, 0), ULLAGRETH_DONE);
+    SAME(told(ullagreth_card(table, WORDS, 5, 1, names, MOST_K, how_many, 0, unsaid(), FAULT)), ULLAGRETH_DONE);
     SAME(how_many[0], MARK);
 }
 
@@ -504,13 +554,18 @@ static void cards_refused(void)
     card_refused(ULLAGRETH_NOT_ENROLLED, WORDS, 10, 1);
     card_refused(ULLAGRETH_NOT_ENROLLED, WORDS, 9999, 16);
     table[WORDS] = 0;
-    table[1] = 10;
+    count_one_too_many();
     for (size_t i = 0; i < LENGTH(lengths); i++)
         card_refused(ULLAGRETH_WRONG_LENGTH, lengths[i], 0, 0);
     card_refused(ULLAGRETH_NOT_WELL_FORMED, WORDS, 0, 0);
     card_refused(ULLAGRETH_NOT_WELL_FORMED, WORDS, 5, 1);
     ullagreth_empty(table);
     card_refused(ULLAGRETH_NOT_ENROLLED, WORDS, 1, 1);
+}
+
+static uint8_t cards_of(size_t words, const int32_t *numbers, size_t n, int32_t k, uint32_t *cards, size_t places)
+{
+    return told(ullagreth_cards(table, words, numbers, n, k, cards, places, unsaid(), FAULT));
 }
 
 /* 0 and 10 have no card, and their stretches stay; so does what is left behind the last whole stretch, or the last number. */
@@ -526,7 +581,7 @@ static void many_cards(void)
     for (size_t l = 0; l < LENGTH(lengths); l++) {
         for (size_t i = 0; i < LENGTH(cards); i++)
             cards[i] = MARK;
-        SAME(ullagreth_cards(table, WORDS, numbers, 5, 3, cards, lengths[l]), ULLAGRETH_DONE);
+        SAME(cards_of(WORDS, numbers, 5, 3, cards, lengths[l]), ULLAGRETH_DONE);
         for (size_t i = 0; i < LENGTH(cards); i++) {
             size_t card = i / MOST_K, place = i % MOST_K;
             int written = card < 5 && (card + 1) * MOST_K <= lengths[l] && place < 3;
@@ -535,15 +590,137 @@ static void many_cards(void)
     }
     for (size_t i = 0; i < LENGTH(cards); i++)
         cards[i] = MARK;
-    SAME(ullagreth_cards(table, WORDS, numbers, 0, 3, cards, LENGTH(cards)), ULLAGRETH_DONE);
-    SAME(ullagreth_cards(table, WORDS, numbers, 5, 0, cards, LENGTH(cards)), ULLAGRETH_DONE);
-    SAME(ullagreth_cards(table, WORDS, numbers, 5, 17, cards, LENGTH(cards)), ULLAGRETH_DONE);
-    SAME(ullagreth_cards(table, WORDS - 1, numbers, 5, 3, cards, LENGTH(cards)), ULLAGRETH_WRONG_LENGTH);
+    SAME(cards_of(WORDS, numbers, 0, 3, cards, LENGTH(cards)), ULLAGRETH_DONE);
+    SAME(cards_of(WORDS, numbers, 5, 0, cards, LENGTH(cards)), ULLAGRETH_DONE);
+    SAME(cards_of(WORDS, numbers, 5, 17, cards, LENGTH(cards)), ULLAGRETH_DONE);
+    SAME(cards_of(WORDS - 1, numbers, 5, 3, cards, LENGTH(cards)), ULLAGRETH_WRONG_LENGTH);
     SAME(stays(), 1);
-    table[1] = 10;
-    SAME(ullagreth_cards(table, WORDS, numbers, 5, 3, cards, LENGTH(cards)), ULLAGRETH_NOT_WELL_FORMED);
+    count_one_too_many();
+    SAME(cards_of(WORDS, numbers, 5, 3, cards, LENGTH(cards)), ULLAGRETH_NOT_WELL_FORMED);
     for (size_t i = 0; i < LENGTH(cards); i++)
         SAME(cards[i], MARK);
+}
+
+/* ---- where a table is bad */
+
+/* Every call refuses the table and tells rule and slot, with arguments that the nine points' table would grant. */
+static void all_refuse(void)
+{
+    static const int32_t five[5] = {5, 6, 7, 8, 9};
+    uint32_t row[2 * MOST_K];
+    for (size_t i = 0; i < LENGTH(row); i++)
+        row[i] = MARK;
+    save();
+    SAME(check(WORDS), ULLAGRETH_NOT_WELL_FORMED);
+    enrol_refused(ULLAGRETH_NOT_WELL_FORMED, WORDS, 10, 0, 0);
+    withdraw_refused(ULLAGRETH_NOT_WELL_FORMED, WORDS, 5);
+    query_refused(ULLAGRETH_NOT_WELL_FORMED, WORDS, 0, 0, 1, MOST);
+    SAME(ask_card(WORDS, 5, 1, MOST_K), ULLAGRETH_NOT_WELL_FORMED);
+    SAME(how_many[0], 0);
+    SAME(unnamed_from(0), 1);
+    SAME(sites(WORDS, five, five, 1, row, 4), ULLAGRETH_NOT_WELL_FORMED);
+    SAME(cards_of(WORDS, five, 2, 1, row, LENGTH(row)), ULLAGRETH_NOT_WELL_FORMED);
+    for (size_t i = 0; i < LENGTH(row); i++)
+        SAME(row[i], MARK);
+    SAME(stays(), 1);
+}
+
+/* Where word j of an entry is: its reference, x low, y low, x high, y high. */
+#define ENTRY(slot, place, j) (2 + ULLAGRETH_SLOT_WORDS * (slot) + 2 + 5 * (place) + (j))
+/* Where a slot's level is, and behind it how many entries it has. */
+#define SLOT(slot) (2 + ULLAGRETH_SLOT_WORDS * (slot))
+
+/* Some words of the nine points' table that become others, the rule that is then broken, and the slot. */
+struct wrong {
+    int32_t rule, slot;
+    size_t n;
+    struct {
+        size_t at;
+        int32_t word;
+    } words[6];
+};
+
+static void places_told(void)
+{
+    static const struct wrong wrongs[] = {
+        /* A word of a free slot; of an unused entry; of both, where the lower slot counts. */
+        {1, 255, 1, {{SLOT(255) + 41, 1}}},
+        {1, 0, 1, {{ENTRY(0, 7, 4), 1}}},
+        {1, 0, 2, {{SLOT(255) + 41, 1}, {ENTRY(0, 4, 0), -1}}},
+        /* No such root; a free one; too many points. */
+        {2, ULLAGRETH_HEADER, 1, {{0, 256}}},
+        {2, ULLAGRETH_HEADER, 1, {{0, 3}}},
+        {2, ULLAGRETH_HEADER, 1, {{1, 501}}},
+        /* Nine entries in slot 1; a level below 0 in slot 0 too. */
+        {3, 1, 1, {{SLOT(1) + 1, 9}}},
+        {3, 0, 2, {{SLOT(1) + 1, 9}, {SLOT(0), -2}}},
+        /* A number that is none; 1 comes again in slot 0; 1 comes again in slot 1; slot 0 gets 9, which then comes again in slot 1. */
+        {4, 1, 1, {{ENTRY(1, 0, 0), 10000}}},
+        {4, 0, 1, {{ENTRY(0, 3, 0), 1}}},
+        {4, 1, 1, {{ENTRY(1, 4, 0), 1}}},
+        {4, 1, 1, {{ENTRY(0, 0, 0), 9}}},
+        /* No such child; a free one; the root itself: of entries in slot 2. */
+        {5, 2, 1, {{ENTRY(2, 1, 0), 256}}},
+        {5, 2, 1, {{ENTRY(2, 1, 0), 3}}},
+        {5, 2, 1, {{ENTRY(2, 0, 0), 2}}},
+        /* A box too wide, and a point that has left its box: an entry in slot 2 again. */
+        {6, 2, 1, {{ENTRY(2, 0, 3), 31}}},
+        {6, 2, 2, {{ENTRY(1, 4, 1), 81}, {ENTRY(1, 4, 3), 81}}},
+        /* A point too few. Both entries of the root are for slot 0: it is referred to twice, slot 1 not at all; and with a point too few. */
+        {7, ULLAGRETH_HEADER, 1, {{1, 8}}},
+        {7, 0, 3, {{ENTRY(2, 1, 0), 0}, {ENTRY(2, 1, 1), 0}, {ENTRY(2, 1, 3), 30}}},
+        {7, ULLAGRETH_HEADER, 4, {{ENTRY(2, 1, 0), 0}, {ENTRY(2, 1, 1), 0}, {ENTRY(2, 1, 3), 30}, {1, 8}}},
+        /* Rules 3 and 4; 6 and 7; 4 to 7; all seven: the lowest one counts, whatever slots the others have. */
+        {3, 1, 2, {{SLOT(1) + 1, 9}, {ENTRY(0, 0, 0), 0}}},
+        {6, 2, 2, {{ENTRY(2, 0, 3), 31}, {1, 8}}},
+        {4, 1, 4, {{ENTRY(1, 0, 0), 0}, {ENTRY(2, 0, 0), -1}, {ENTRY(2, 1, 1), 0}, {1, 8}}},
+        {1, 9, 6, {{SLOT(9) + 1, 1}, {0, -1}, {SLOT(0), -2}, {ENTRY(1, 0, 0), 0}, {ENTRY(2, 0, 0), -1}, {ENTRY(2, 1, 1), 0}}},
+    };
+    struct point points[9];
+    for (const struct wrong *w = wrongs; w < wrongs + LENGTH(wrongs); w++) {
+        nine(points);
+        for (size_t i = 0; i < w->n; i++)
+            table[w->words[i].at] = w->words[i].word;
+        rule = w->rule;
+        slot = w->slot;
+        all_refuse();
+    }
+}
+
+/* The number of a call whose row for rule and slot must stay as it was. */
+static uint8_t silent(uint8_t number)
+{
+    SAME(fault[0] == MARK && fault[1] == MARK, 1);
+    return number;
+}
+
+/* Each call gives a number, and leaves a row of so many places for rule and slot; enrolling comes after those that only look. */
+static void all_leave(uint8_t number, size_t words, size_t places)
+{
+    static const int32_t five[5] = {5, 6, 7, 8, 9};
+    uint32_t row[MOST_K];
+    SAME(silent(ullagreth_check(table, words, unsaid(), places)), number);
+    SAME(silent(ullagreth_query(table, words, 0, 0, 1, list, MOST, answers, MOST, counts, 4, fault, places)), number);
+    SAME(silent(ullagreth_sites(table, words, five, 5, five, 5, 1, row, 5, fault, places)), number);
+    SAME(silent(ullagreth_card(table, words, 5, 1, names, MOST_K, how_many, 2, fault, places)), number);
+    SAME(silent(ullagreth_cards(table, words, five, 1, 1, row, MOST_K, fault, places)), number);
+    SAME(silent(ullagreth_enrol(table, words, 10, 90, 0, fault, places)), number);
+    SAME(silent(ullagreth_withdraw(table, words, 10, fault, places)), number);
+}
+
+/* A row of no places or of one stays whole, whatever the number; one of just two is long enough. */
+static void short_faults(void)
+{
+    struct point points[9];
+    for (size_t places = 0; places < 2; places++) {
+        nine(points);
+        all_leave(ULLAGRETH_DONE, WORDS, places);
+        all_leave(ULLAGRETH_WRONG_LENGTH, WORDS - 1, places);
+        count_one_too_many();
+        all_leave(ULLAGRETH_NOT_WELL_FORMED, WORDS, places);
+    }
+    SAME(told(ullagreth_check(table, WORDS, unsaid(), 2)), ULLAGRETH_NOT_WELL_FORMED);
+    SAME(told(ullagreth_check(table, WORDS - 1, unsaid(), 2)), ULLAGRETH_WRONG_LENGTH);
 }
 
 static void try(const char *name, void (*cases)(void))
@@ -566,6 +743,8 @@ int main(void)
     try("cards of nine", cards_of_nine);
     try("cards refused", cards_refused);
     try("many cards", many_cards);
+    try("places told", places_told);
+    try("short faults", short_faults);
     if (failures > 0) {
         printf("the C header: %d of %d checks failed\n", failures, checks);
         return 1;

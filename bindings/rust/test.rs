@@ -18,6 +18,10 @@ const OFF: [i32; 4] = [EDGE + 1, -EDGE - 1, i32::MAX, i32::MIN];
 // What no call writes.
 const UNTOUCHED: Candidate = Candidate { number: 55_555, x: -6, y: -7, square: u64::MAX };
 const UNSAID: u32 = 123_456;
+const UNTOLD: i32 = -44_444;
+
+/// Word 1 of the nine points' table says ten: rule 7, in the header.
+const ONE_TOO_MANY: Refusal = Refusal::NotWellFormed { rule: 7, slot: -1 };
 
 #[derive(Default)]
 struct Tally {
@@ -39,6 +43,19 @@ impl Tally {
     #[track_caller]
     fn same_words(&mut self, got: &[i32], want: &[i32]) {
         self.same((got.len(), got.iter().zip(want).position(|(a, b)| a != b)), (want.len(), None));
+    }
+}
+
+/// A row for rule and slot, with a place more.
+fn untold() -> [i32; 3] {
+    [UNTOLD; 3]
+}
+
+/// What such a row is to say: rule and slot with refusal 2, 0 and 0 with any other, and the third place stays.
+fn told(refusal: Refusal) -> [i32; 3] {
+    match refusal {
+        Refusal::NotWellFormed { rule, slot } => [i32::from(rule), slot, UNTOLD],
+        _ => [0, 0, UNTOLD],
     }
 }
 
@@ -89,9 +106,9 @@ fn asked(t: &mut Tally, table: &Table, points: &[Point], w: &Wanted) {
         t.same(table.query(x, y, w.k, &mut list, &mut answers), Err(Refusal::ShortList { n: counts.n }));
         t.same(list, w.list(points));
         t.same(answers, vec![UNSAID; counts.n - 1]);
-        let (mut list, mut answers, mut row) = (vec![UNTOUCHED; MOST_POINTS], vec![UNSAID; counts.n - 1], [9; 3]);
-        t.same(lent::query(table.words(), x, y, w.k, &mut list, &mut answers, &mut row), 10);
-        t.same(row, [counts.n as u64, 0, 0]);
+        let (mut list, mut answers, mut row, mut fault) = (vec![UNTOUCHED; MOST_POINTS], vec![UNSAID; counts.n - 1], [9; 3], untold());
+        t.same(lent::query(table.words(), x, y, w.k, &mut list, &mut answers, &mut row, &mut fault), 10);
+        t.same((row, fault), ([counts.n as u64, 0, 0], [0, 0, UNTOLD]));
         t.same_words(table.words(), before.words());
     }
 }
@@ -176,8 +193,9 @@ fn rows_of_counts(t: &mut Tally) {
     for (places, want) in [(0, vec![]), (2, vec![9, 9]), (3, vec![0, 1, 2]), (5, vec![0, 1, 2, 9, 9])] {
         let (mut list, mut answers) = lists(9, 0);
         let mut row = vec![9; places];
-        t.same(lent::query(table.words(), -10, 0, 1, &mut list, &mut answers, &mut row), 0);
-        t.same(row, want);
+        let mut fault = untold();
+        t.same(lent::query(table.words(), -10, 0, 1, &mut list, &mut answers, &mut row, &mut fault), 0);
+        t.same((row, fault), (want, [0, 0, UNTOLD]));
     }
 }
 
@@ -188,10 +206,10 @@ fn rows_of_counts(t: &mut Tally) {
 fn refused(t: &mut Tally, table: &Table, (x, y): (i32, i32), k: i32, room: usize, want: Refusal) {
     let (mut list, mut answers) = lists(room, 0);
     t.same(table.query(x, y, k, &mut list, &mut answers), Err(want));
-    let (mut roomy, mut row) = (vec![UNTOUCHED; room], [9; 3]);
-    t.same(lent::query(table.words(), x, y, k, &mut roomy, &mut answers, &mut row), want.number());
+    let (mut roomy, mut row, mut fault) = (vec![UNTOUCHED; room], [9; 3], untold());
+    t.same(lent::query(table.words(), x, y, k, &mut roomy, &mut answers, &mut row, &mut fault), want.number());
     t.same((list, roomy), (vec![UNTOUCHED; room], vec![UNTOUCHED; room]));
-    t.same(row, [0; 3]);
+    t.same((row, fault), ([0; 3], told(want)));
 }
 
 /// Each call refuses such a table, whatever else is wrong with the call.
@@ -207,8 +225,8 @@ fn table_refused(t: &mut Tally, mut table: Table, want: Refusal) {
 
 fn tables_refused(t: &mut Tally) {
     let mut words = nine().0.words().to_vec();
-    words[1] = 10; // a point too many
-    table_refused(t, Table::of_words(words.clone()), Refusal::NotWellFormed);
+    words[1] = 10;
+    table_refused(t, Table::of_words(words.clone()), ONE_TOO_MANY);
     words.push(0);
     for length in [0, 1, WORDS - 1, WORDS + 1] {
         table_refused(t, Table::of_words(&words[..length]), Refusal::WrongLength);
@@ -267,7 +285,7 @@ fn numbers(t: &mut Tally) {
     use Refusal::*;
     let all = [
         WrongLength,
-        NotWellFormed,
+        NotWellFormed { rule: 4, slot: 17 },
         NoSuchNumber,
         OffGrid,
         NoSuchK,
@@ -280,6 +298,9 @@ fn numbers(t: &mut Tally) {
         SheetTooLong,
     ];
     t.same(all.map(Refusal::number), [1, 2, 3, 4, 5, 6, 7, 8, 9, 10, 11, 12]);
+    t.same(all[1].to_string(), "table not well formed: rule 4, slot 17".to_string());
+    t.same(ONE_TOO_MANY.to_string(), "table not well formed: rule 7, slot -1".to_string());
+    t.same(all[7].to_string(), "point not enrolled".to_string());
 }
 
 // ---- many places at once
@@ -304,7 +325,7 @@ fn many_places(t: &mut Tally) {
     damaged[1] = 10;
     let mut counts = [UNSAID; 4];
     t.same(Table::of_words(short).sites(&xs, &ys, 1, &mut counts), Err(Refusal::WrongLength));
-    t.same(Table::of_words(damaged).sites(&xs, &ys, 1, &mut counts), Err(Refusal::NotWellFormed));
+    t.same(Table::of_words(damaged).sites(&xs, &ys, 1, &mut counts), Err(ONE_TOO_MANY));
     t.same(counts, [UNSAID; 4]);
 }
 
@@ -363,8 +384,9 @@ fn cards_of_nine(t: &mut Tally) {
     carded(t, &table, 1, 5, &[2, 3, 4, 5, 6]);
     for (places, want) in [(0, vec![]), (1, vec![3]), (2, vec![3, 9])] {
         let mut names = vec![9; places];
-        t.same(lent::card(table.words(), 6, 3, &mut [UNSAID; MOST_K], &mut names), 0);
-        t.same(names, want);
+        let mut fault = untold();
+        t.same(lent::card(table.words(), 6, 3, &mut [UNSAID; MOST_K], &mut names, &mut fault), 0);
+        t.same((names, fault), (want, [0, 0, UNTOLD]));
     }
 }
 
@@ -373,9 +395,9 @@ fn cards_of_nine(t: &mut Tally) {
 fn uncarded(t: &mut Tally, table: &Table, number: i32, k: i32, want: Refusal) {
     let before = table.clone();
     t.same(table.card(number, k, &mut []), Err(want));
-    let (mut list, mut names) = ([UNSAID; MOST_K], [9; 2]);
-    t.same(lent::card(table.words(), number, k, &mut list, &mut names), want.number());
-    t.same((list, names), ([UNSAID; MOST_K], [0, 9]));
+    let (mut list, mut names, mut fault) = ([UNSAID; MOST_K], [9; 2], untold());
+    t.same(lent::card(table.words(), number, k, &mut list, &mut names, &mut fault), want.number());
+    t.same((list, names, fault), ([UNSAID; MOST_K], [0, 9], told(want)));
     t.same_words(table.words(), before.words());
 }
 
@@ -393,9 +415,9 @@ fn cards_refused(t: &mut Tally) {
     uncarded(t, &table, 9_999, 16, Refusal::NotEnrolled);
     uncarded(t, &Table::empty(), 1, 1, Refusal::NotEnrolled);
     let mut words = table.words().to_vec();
-    words[1] = 10; // a point too many
-    uncarded(t, &Table::of_words(words.clone()), 0, 0, Refusal::NotWellFormed);
-    uncarded(t, &Table::of_words(words.clone()), 5, 1, Refusal::NotWellFormed);
+    words[1] = 10;
+    uncarded(t, &Table::of_words(words.clone()), 0, 0, ONE_TOO_MANY);
+    uncarded(t, &Table::of_words(words.clone()), 5, 1, ONE_TOO_MANY);
     words.push(0);
     for length in [0, 1, WORDS - 1, WORDS + 1] {
         uncarded(t, &Table::of_words(&words[..length]), 0, 0, Refusal::WrongLength);
@@ -419,7 +441,8 @@ fn many_cards(t: &mut Tally) {
     }
     for places in [3, 15, 16, 17, 47, 79, 95] {
         let mut cards = vec![UNSAID; places];
-        t.same(lent::cards(table.words(), &numbers, 3, &mut cards), 0);
+        let mut fault = untold();
+        t.same((lent::cards(table.words(), &numbers, 3, &mut cards, &mut fault), fault), (0, [0, 0, UNTOLD]));
         let whole = places / MOST_K * MOST_K;
         t.same(&cards[..whole], &wanted.concat()[..whole]);
         t.same(&cards[whole..], &vec![UNSAID; places - whole]);
@@ -431,8 +454,116 @@ fn many_cards(t: &mut Tally) {
     let (short, mut damaged) = (&table.words()[1..], table.words().to_vec());
     damaged[1] = 10;
     t.same(Table::of_words(short).cards(&numbers, 3, &mut cards), Err(Refusal::WrongLength));
-    t.same(Table::of_words(damaged).cards(&numbers, 3, &mut cards), Err(Refusal::NotWellFormed));
+    t.same(Table::of_words(damaged).cards(&numbers, 3, &mut cards), Err(ONE_TOO_MANY));
     t.same(cards, [NO_CARD; 5]);
+}
+
+// ---- where a table is bad
+
+/// Where a slot's level stands, and behind it how many entries it has; and where word j of an entry does: reference, x low, y low, x high, y high.
+const fn at(slot: usize) -> usize {
+    2 + SLOT_WORDS * slot
+}
+
+const fn entry(slot: usize, place: usize, j: usize) -> usize {
+    at(slot) + 2 + 5 * place + j
+}
+
+/// Every call tells rule and slot, of the nine points' table with some words changed, and changes nothing.
+#[track_caller]
+fn bad(t: &mut Tally, rule: u8, slot: i32, changes: &[(usize, i32)]) {
+    let mut words = nine().0.words().to_vec();
+    changes.iter().for_each(|&(at, word)| words[at] = word);
+    let want = Refusal::NotWellFormed { rule, slot };
+    let table = Table::of_words(words);
+    uncarded(t, &table, 5, 1, want);
+    let (mut counts, mut cards) = ([UNSAID; 2], [[UNSAID; MOST_K]; 2]);
+    t.same(table.sites(&[0, 1], &[0, 1], 1, &mut counts), Err(want));
+    t.same(table.cards(&[5, 6], 1, &mut cards), Err(want));
+    t.same((counts, cards), ([UNSAID; 2], [[UNSAID; MOST_K]; 2]));
+    for places in 0..=3 {
+        lent_calls(t, table.words(), places, want);
+    }
+    table_refused(t, table, want);
+}
+
+/// Every call with a row of so many places: what it is to say with a refusal that each of them gives; of fewer than two places it says nothing.
+#[track_caller]
+fn lent_calls(t: &mut Tally, words: &[i32], places: usize, want: Refusal) {
+    let said = if places < 2 { vec![UNTOLD; places] } else { told(want)[..places].to_vec() };
+    let mut says = |name: &str, call: &dyn Fn(&mut [i32], &mut [i32]) -> u8| {
+        let (mut table, mut fault) = (words.to_vec(), vec![UNTOLD; places]);
+        t.same((name, call(&mut table, &mut fault), fault), (name, want.number(), said.clone()));
+        t.same_words(&table, words);
+    };
+    says("check", &|table, fault| lent::check(table, fault));
+    says("enrol", &|table, fault| lent::enrol(table, 10, 90, 0, fault));
+    says("withdraw", &|table, fault| lent::withdraw(table, 5, fault));
+    says("query", &|table, fault| lent::query(table, 0, 0, 1, &mut [UNTOUCHED; 9], &mut [UNSAID; 9], &mut [9; 3], fault));
+    says("sites", &|table, fault| lent::sites(table, &[0], &[0], 1, &mut [UNSAID], fault));
+    says("card", &|table, fault| lent::card(table, 5, 1, &mut [UNSAID; MOST_K], &mut [9], fault));
+    says("cards", &|table, fault| lent::cards(table, &[5], 1, &mut [UNSAID; MOST_K], fault));
+}
+
+/// Slot 0 holds 1 to 4, slot 1 holds 5 to 9, and the root is slot 2: its entries are the only ones with a child and a box.
+fn places_told(t: &mut Tally) {
+    // a word of a free slot; of an unused entry; of both, where the lower slot counts
+    bad(t, 1, 255, &[(at(255) + 41, 1)]);
+    bad(t, 1, 1, &[(entry(1, 5, 0), 1)]);
+    bad(t, 1, 1, &[(at(255) + 41, 1), (entry(1, 7, 4), 1)]);
+    // the header: no such root, a free one, no points
+    bad(t, 2, -1, &[(0, -2)]);
+    bad(t, 2, -1, &[(0, 3)]);
+    bad(t, 2, -1, &[(1, 0)]);
+    // nine entries in slot 1; and a level below 0 in slot 0
+    bad(t, 3, 1, &[(at(1) + 1, 9)]);
+    bad(t, 3, 0, &[(at(1) + 1, 9), (at(0), -2)]);
+    // a number that is none; 1 again in slot 0; 1 again in slot 1; and 9 in slot 0, so that the one in slot 1 is the later
+    bad(t, 4, 1, &[(entry(1, 0, 0), 0)]);
+    bad(t, 4, 0, &[(entry(0, 3, 0), 1)]);
+    bad(t, 4, 1, &[(entry(1, 4, 0), 1)]);
+    bad(t, 4, 1, &[(entry(0, 0, 0), 9)]);
+    // no such child, a free one, the root itself
+    bad(t, 5, 2, &[(entry(2, 1, 0), -1)]);
+    bad(t, 5, 2, &[(entry(2, 1, 0), 3)]);
+    bad(t, 5, 2, &[(entry(2, 0, 0), 2)]);
+    // a box too wide; a point that has left its box
+    bad(t, 6, 2, &[(entry(2, 0, 3), 31)]);
+    bad(t, 6, 2, &[(entry(0, 0, 2), -1), (entry(0, 0, 4), -1)]);
+    // a point too few; slot 0 twice and slot 1 not at all; and both
+    let twice = [(entry(2, 1, 0), 0), (entry(2, 1, 1), 0), (entry(2, 1, 3), 30)];
+    bad(t, 7, -1, &[(1, 8)]);
+    bad(t, 7, 0, &twice);
+    bad(t, 7, -1, &[&twice[..], &[(1, 8)]].concat());
+    // rules 1 and 2; 3 and 4; 6 and 7; 4 to 7; 5 to 7: the lowest one counts, whatever slots the others have
+    bad(t, 1, 9, &[(at(9) + 1, 1), (0, -1)]);
+    bad(t, 3, 1, &[(at(1) + 1, 9), (entry(0, 0, 0), 0)]);
+    bad(t, 6, 2, &[(entry(2, 0, 3), 31), (1, 8)]);
+    bad(t, 4, 1, &[(entry(1, 0, 0), 0), (entry(2, 0, 0), -1), (entry(2, 1, 1), 0), (1, 8)]);
+    bad(t, 5, 2, &[(entry(2, 0, 0), -1), (entry(2, 1, 1), 0), (1, 8)]);
+    // of a wrong length, which is all that is told
+    for places in 0..=3 {
+        lent_calls(t, &nine().0.words()[1..], places, Refusal::WrongLength);
+    }
+}
+
+/// A granted call says 0 and 0, and so does one that is refused for another reason than the table.
+fn nothing_told(t: &mut Tally) {
+    let mut words = nine().0.words().to_vec();
+    for (places, want) in [(0, vec![]), (1, vec![UNTOLD]), (2, vec![0, 0]), (3, vec![0, 0, UNTOLD])] {
+        let mut says = |wanted: u8, call: &mut dyn FnMut(&mut [i32]) -> u8| {
+            let mut fault = vec![UNTOLD; places];
+            t.same((call(&mut fault), fault), (wanted, want.clone()));
+        };
+        says(0, &mut |fault| lent::check(&words, fault));
+        says(0, &mut |fault| lent::sites(&words, &[0], &[0], 1, &mut [UNSAID], fault));
+        says(5, &mut |fault| lent::card(&words, 5, 0, &mut [UNSAID; MOST_K], &mut [9], fault));
+        says(9, &mut |fault| lent::query(&words, 0, 0, 1, &mut [], &mut [], &mut [9; 3], fault));
+        says(6, &mut |fault| lent::enrol(&mut words, 9, 0, 0, fault));
+        says(0, &mut |fault| lent::enrol(&mut words, 10, 90, 0, fault));
+        says(0, &mut |fault| lent::withdraw(&mut words, 10, fault));
+        says(8, &mut |fault| lent::withdraw(&mut words, 10, fault));
+    }
 }
 
 fn main() {
@@ -450,6 +581,8 @@ fn main() {
     cards_of_nine(&mut t);
     cards_refused(&mut t);
     many_cards(&mut t);
+    places_told(&mut t);
+    nothing_told(&mut t);
     if t.failed > 0 {
         println!("the Rust wrapper: {} of {} checks failed", t.failed, t.checks);
         std::process::exit(1);

@@ -6,12 +6,16 @@ use mathlib.Core.Path.{_≡_, sym, _∙_}
 use mathlib.Core.Bool.{Bool, true, false, not, false≢true}
 use mathlib.Core.List.{List, [], _∷_}
 use lib.ListN.{length, getD}
-use borrow.Author.Tests.{not-true, not-false}
+use native.Mathlib.Decide.{decLt}
+use lib.Dec.{eqb}
+use borrow.Author.Tests.{not-true, not-false, eq-eqb, ne-eqb}
 use borrow.Author.Count.{below-none, below-more}
 use Rattle.order.specs.Lists.{every, All}
 use Rattle.order.specs.Order.{upFrom}
+use Rattle.audit.specs.Asked.{Lowest}
 use Rattle.order.proofs.Lists.{all-at}
 use Rattle.rules.proofs.Tests.{by-test, every-all, all-every}
+use Rattle.rules.proofs.Broken.{Everywhere, FirstAt}
 use Rattle.rules.proofs.Counted.{every-below, below-every}
 
 -- the first i of n have passed
@@ -42,6 +46,36 @@ one-fails P n i h f = never-true (λ e. false≢true (sym f ∙ every-below P n 
 
 pub all-pass : (P : ℕ → Bool) (n i : ℕ) → Tested P n i → n ≤ i → every P (upFrom 0 n) ≡ true
 all-pass P n i t h = below-every P n (λ k l. t .each k (omega arith))
+
+-- the loop stops at the lowest that fails, or passes all
+pub found-lowest : {P : ℕ → Bool} {n i : ℕ} → Tested P n i → P i ≡ false → Lowest P n i
+found-lowest t f = record { within = t .within; below = t .each; broken = λ h. f }
+
+pub none-lowest : {P : ℕ → Bool} {n i : ℕ} → Tested P n i → n ≤ i → Lowest P n i
+none-lowest t h = record { within = t .within; below = t .each; broken = λ l. absurd (omega arith) }
+
+-- what it says of a rule, broken at a slot or at none
+pub lowest-first : {P : ℕ → Bool} {n r : ℕ} → Lowest P n r → r < n → FirstAt n P r
+lowest-first l h = record { inside = h; below = l .below; broken = l .broken h }
+
+pub lowest-none : {P : ℕ → Bool} {n r : ℕ} → Lowest P n r → n ≤ r → Everywhere n P
+lowest-none l h k u = l .below k (omega arith)
+
+-- and none that is lowest is a test passed by all
+pub lowest-all : {P : ℕ → Bool} {n r : ℕ} → Lowest P n r → n ≤ r → every P (upFrom 0 n) ≡ true
+lowest-all {P} {n} l h = below-every P n (λ k u. l .below k (omega arith))
+
+pub lowest-fails : {P : ℕ → Bool} {n r : ℕ} → Lowest P n r → r < n → every P (upFrom 0 n) ≡ false
+lowest-fails {P} {n} {r} l h = one-fails P n r h (l .broken h)
+
+pub lowest-every : {P : ℕ → Bool} {n r : ℕ} → Lowest P n r → eqb r n ≡ every P (upFrom 0 n)
+lowest-every {P} {n} {r} l = go (decLt r n)
+  where
+    go : Dec (r < n) → eqb r n ≡ every P (upFrom 0 n)
+    go (yes h) = ne-eqb r n (λ e. omega arith) ∙ sym (lowest-fails l h)
+    go (no h) =
+        let g : n ≤ r = omega arith in
+        eq-eqb r n (omega (arith, l .within)) ∙ sym (lowest-all l g)
 
 -- ---- the elements of a list
 

@@ -4,3 +4,4 @@ pub mod Gathered
 pub mod Entries
 pub mod Marked
 pub mod Tallied
+pub mod Where

@@ -1,7 +1,7 @@
 -- The rules that are asked of one slot after the other, by their names: what each asks, and what it counts on.
-use Prim.Native.Nat.{ℕ}
+use Prim.Native.Nat.{ℕ, _≤_, _<_}
 use mathlib.Core.Path.{_≡_}
-use mathlib.Core.Bool.{Bool, true}
+use mathlib.Core.Bool.{Bool, true, false}
 use mathlib.Core.List.{List}
 use Rattle.order.specs.Lists.{every, join}
 use Rattle.table.specs.Words.{Words}
@@ -27,3 +27,9 @@ Before Three ws times = Unit
 Before Five ws times = Unit
 Before Six ws times = every (rule5 ws) slots ≡ true
 Before Seven ws times = Tally times (join (refsAt ws) slots)
+
+-- the lowest of the first n slots where a rule is broken; n if it is broken at none
+pub record Lowest (P : ℕ → Bool) (n r : ℕ) : Type 0 where
+  pub within : r ≤ n
+  pub below : (k : ℕ) → k < r → P k ≡ true
+  pub broken : r < n → P r ≡ false

@@ -1,3 +1,4 @@
 pub mod Check
 pub mod Seen
 pub mod Asked
+pub mod Where

@@ -2,10 +2,8 @@
 ghost use mathlib.Core.Path.{_≡_};
 ghost use Prim.Native.Nat.{_<_};
 ghost use lib.ListN.{length};
-ghost use Rattle.order.specs.Lists.{every};
 ghost use Rattle.figures.specs.Figures.{SLOTS, LENGTH};
-ghost use Rattle.table.specs.Slots.{slots};
-ghost use Rattle.audit.specs.Asked.{ruleAt, Before};
+ghost use Rattle.audit.specs.Asked.{ruleAt, Before, Lowest};
 use crate::children;
 use crate::references;
 use crate::shape;
@@ -37,18 +35,17 @@ pub fn holds_at(table: &[i32], rule: Rule, slot: usize, times: &[usize; Table::S
     }
 }
 
-// One rule at every slot. The loop stops at the lowest slot where the rule is broken. Document 02, section 4, asks which that is:
-// then `slot` is given back for false and Table::SLOTS for true, here and in numbers::rule4_holds.
-pub fn every_slot(table: &[i32], rule: Rule, times: &[usize; Table::SLOTS]) -> bool
+// The lowest slot where a rule is broken; Table::SLOTS if it holds at every one.
+pub fn first_broken(table: &[i32], rule: Rule, times: &[usize; Table::SLOTS]) -> usize
     requires { ⌜ (length (now table) ≡ LENGTH) × Before rule (now table) (now times) ⌝ }
-    ensures { λ r. ⌜ r ≡ every (ruleAt rule (now (table .entry))) slots ⌝ }
+    ensures { λ r. ⌜ Lowest (ruleAt rule (now (table .entry))) SLOTS r ⌝ }
 {
     let mut slot = 0;
     while slot < Table::SLOTS {
         if !holds_at(table, rule, slot, times) {
-            return false;
+            return slot;
         }
         slot += 1;
     }
-    true
+    slot
 }

@@ -22,7 +22,7 @@ pub fn is_empty(table: &[i32]) -> bool
         return false;
     }
     let uncounted = [0; Table::SLOTS];
-    asked::every_slot(table, Rule::Free, &uncounted)
+    asked::first_broken(table, Rule::Free, &uncounted) == Table::SLOTS
 }
 
 // Rule 2: empty, or the root is a used slot and points are 1 to 500.

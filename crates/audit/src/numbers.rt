@@ -8,10 +8,10 @@ ghost use Rattle.order.specs.Lists.{every, join};
 ghost use Rattle.order.specs.Order.{upFrom};
 ghost use Rattle.figures.specs.Figures.{FAN, SLOTS, LENGTH};
 ghost use Rattle.table.specs.Page.{held};
-ghost use Rattle.table.specs.Slots.{slots};
 ghost use Rattle.table.specs.Stations.{spanIsSpot, isPoint};
 ghost use Rattle.rules.specs.Rules.{numbersAt, rule4};
 ghost use Rattle.audit.specs.Seen.{refsOf, Marks, Entered};
+ghost use Rattle.audit.specs.Asked.{Lowest};
 use axis::span::Span;
 use figures::Table;
 use table::node::Entry;
@@ -99,18 +99,18 @@ fn rule4_at(table: &[i32], slot: usize, seen: &mut [bool; NUMBERS]) -> bool
     mark(seen, n)
 }
 
-// Rule 4 for all slots, in one pass.
-pub fn rule4_holds(table: &[i32]) -> bool
+// The lowest slot where rule 4 is broken, in one pass; Table::SLOTS if it holds at every one. A number that is met again is broken at the later place.
+pub fn rule4_first(table: &[i32]) -> usize
     requires { ⌜ length (now table) ≡ LENGTH ⌝ }
-    ensures { λ r. ⌜ r ≡ every (rule4 (now (table .entry))) slots ⌝ }
+    ensures { λ r. ⌜ Lowest (rule4 (now (table .entry))) SLOTS r ⌝ }
 {
     let mut seen = [false; NUMBERS];
     let mut slot = 0;
     while slot < Table::SLOTS {
         if !rule4_at(table, slot, &mut seen) {
-            return false;
+            return slot;
         }
         slot += 1;
     }
-    true
+    slot
 }

@@ -1,6 +1,6 @@
 // Rule 7: how often each slot is referred to, and how many points there are.
 ghost use mathlib.Core.Path.{_≡_};
-ghost use mathlib.Core.Bool.{true, _&&_};
+ghost use mathlib.Core.Bool.{true};
 ghost use Prim.Native.Nat.{ℕ, _+_, _*_, _≤_, _<_};
 ghost use mathlib.Core.List.{List, _++_};
 ghost use lib.ListN.{length, getD};
@@ -12,6 +12,7 @@ ghost use Rattle.table.specs.Slots.{slots};
 ghost use Rattle.table.specs.Stations.{stationsAt, stations};
 ghost use Rattle.rules.specs.Rules.{refsAt, rule5, rule7, rule7Header};
 ghost use Rattle.audit.specs.Seen.{refsOf, Tally};
+ghost use Rattle.audit.specs.Asked.{Lowest};
 use crate::asked;
 use crate::asked::Rule;
 use crate::children;
@@ -87,18 +88,24 @@ pub fn rule7_at(table: &[i32], slot: usize, times: &[usize; Table::SLOTS]) -> bo
     times[slot] == 1
 }
 
-pub fn rule7_holds(table: &[i32]) -> bool
-    requires { ⌜ (length (now table) ≡ LENGTH) × (every (rule5 (now table)) slots ≡ true) ⌝ }
-    ensures { λ r. ⌜ r ≡ (rule7Header (now (table .entry)) && every (rule7 (now (table .entry))) slots) ⌝ }
+// Whether word 1 is the number of leaf entries.
+pub fn points_agree(table: &[i32]) -> bool
+    requires { ⌜ length (now table) ≡ LENGTH ⌝ }
+    ensures { λ r. ⌜ r ≡ rule7Header (now (table .entry)) ⌝ }
 {
-    if slot::points_of(table) != leaf_entries(table) {
-        return false;
-    }
+    slot::points_of(table) == leaf_entries(table)
+}
+
+// The lowest slot where rule 7 is broken; Table::SLOTS if it holds at every one.
+pub fn rule7_first(table: &[i32]) -> usize
+    requires { ⌜ (length (now table) ≡ LENGTH) × (every (rule5 (now table)) slots ≡ true) ⌝ }
+    ensures { λ r. ⌜ Lowest (rule7 (now (table .entry))) SLOTS r ⌝ }
+{
     let mut times = [0; Table::SLOTS];
     let mut slot = 0;
     while slot < Table::SLOTS {
         count_at(table, slot, &mut times);
         slot += 1;
     }
-    asked::every_slot(table, Rule::Seven, &times)
+    asked::first_broken(table, Rule::Seven, &times)
 }

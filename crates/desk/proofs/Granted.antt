@@ -15,7 +15,6 @@ use Rattle.order.proofs.Lists.{by-bool}
 use Rattle.table.specs.declared.given.Given.the-variants.{
   Done,
   WrongLength,
-  NotWellFormed,
   NoSuchNumber,
   OffGrid,
   NoSuchK,
@@ -30,7 +29,7 @@ use Rattle.table.specs.Words.{Words, pointsOf, between}
 use Rattle.table.specs.Stations.{stations}
 use Rattle.rules.specs.Rules.{wellFormed, Passing}
 use Rattle.table.specs.Given.{Line, line, firstOf}
-use Rattle.audit.specs.Check.{wrongLength, malformed, checkGives}
+use Rattle.audit.specs.Check.{wrongLength, malformed, checkGives, badAt}
 use Rattle.filter.specs.Query.{answersFound}
 use Rattle.card.specs.Card.{namesFor}
 use Rattle.rules.proofs.Tests.{and-left, and-right, between-true}
@@ -60,7 +59,7 @@ on-grid q e =
 
 -- lines 1 and 2, and then others
 abbrev checked : Words → List Line → List Line
-checked ws ls = line (wrongLength ws) WrongLength ∷ line (malformed ws) NotWellFormed ∷ ls
+checked ws ls = line (wrongLength ws) WrongLength ∷ line (malformed ws) (badAt ws) ∷ ls
 
 -- an enrolment's own, before the last
 abbrev beforeFull : Words → ℤ → Site → List Line

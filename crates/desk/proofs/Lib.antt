@@ -11,3 +11,4 @@ pub mod CallAlone
 pub mod CallCard
 pub mod Once
 pub mod TwoLists
+pub mod PassedOn

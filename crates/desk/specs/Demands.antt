@@ -28,7 +28,8 @@ use Rattle.refusals.specs.Refusals.{enrolLines, enrolGives, withdrawLines, with
 use Rattle.refusals.specs.Cases.{ifDone}
 use Rattle.desk.specs.Calls.{afterEnrol, afterWithdraw, Queried, afterQuery, zeroCounts, onlyN, Listed, afterCard}
 
--- ---- demand 1: every call gives the number of the first line of 01 and 02 that holds, and a refusal changes nothing, but for 10 of the query and of the card
+-- ---- demand 1: every call gives the number of the first line of 01 and 02 that holds, and a refusal changes nothing, but for 10 of the query and of the card.
+-- 02 §4 amends "zero counts" for refusal 2 only: its answer carries the rule and the slot where the table is bad
 
 -- a line with this answer holds, and no earlier line does
 abbrev pub First : List Line → Given → Type 0

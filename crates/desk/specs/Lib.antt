@@ -5,3 +5,4 @@ pub mod Lent
 pub mod Carding
 pub mod Alone
 pub mod Sharp
+pub mod PassedOn

@@ -1,16 +1,19 @@
--- What the caller of a query or a card is told, from what the desk promises: each part of it, and the counts written one after the other. And what a call for many leaves, by what the check gives. Assumes nothing.
+-- What the caller of a query or a card is told, from what the desk promises: each part of it, and the counts, and the rule and the slot, written one after the other. And what a call for many leaves, by what the check gives. Assumes nothing.
 use Prim.Native.Nat.{ℕ, _≤_, _<_}
 use native.Mathlib.Omega.{arith}
 use mathlib.Core.Path.{_≡_, refl, sym, ap, _∙_}
 use mathlib.Core.List.{List, [], _∷_}
-use lib.IntN.{ℤ}
+use mir.Syntax.{w32}
+use mir.Val.{SFits, toZ, ofZ}
+use mir.ValLaws.{toZ-ofZ}
+use lib.IntN.{ℤ, pos}
 use lib.ListN.{length, set}
 use borrow.Author.Tests.{lt-ltb, le-ltb}
 use Rattle.grid.specs.Site.{Site}
 use Rattle.table.specs.declared.given.Given.{Given}
 use Rattle.table.specs.declared.given.Given.the-variants.{Done}
 use Rattle.table.specs.Words.{Words}
-use Rattle.table.specs.Given.{numberGiven}
+use Rattle.table.specs.Given.{numberGiven, ruleGiven, slotGiven}
 use Rattle.audit.specs.Check.{checkGives}
 use Rattle.filter.specs.Query.{Counts, laidOver}
 use Rattle.record.specs.declared.Candidate.{Candidate}
@@ -21,6 +24,7 @@ use Rattle.refusals.proofs.Given.{if-refused}
 use Rattle.desk.specs.Calls.{Queried, Listed}
 use Rattle.desk.specs.Lent.{Answers}
 use Rattle.desk.specs.Carding.{Cards}
+use Rattle.export.specs.Where.{faultLaid}
 use Rattle.export.specs.Told.{countsLaid, Told}
 use Rattle.export.specs.Cards.{namesLaid, ToldCard}
 
@@ -48,24 +52,52 @@ one-set (x ∷ row) n h = refl
 pub names-one : (n : ℕ) (row : List ℕ) → 1 ≤ length row → set row 0 n ≡ namesLaid n row
 names-one n row h = rw (le-ltb (length row) 1 h) (one-set row n h)
 
+-- ---- where a table is bad
+
+two-set : (row : List ℤ) (a b : ℤ) → 2 ≤ length row → set (set row 0 a) 1 b ≡ laidOver (a ∷ b ∷ []) row
+two-set [] a b h = absurd (omega arith)
+two-set (x ∷ []) a b h = absurd (omega arith)
+two-set (x ∷ y ∷ row) a b h = refl
+
+pub fault-none : (g : Given) (row : List ℤ) → length row < 2 → row ≡ faultLaid g row
+fault-none g row h = rw (lt-ltb (length row) 2 h)
+
+fault-two : (g : Given) (row : List ℤ) → 2 ≤ length row → set (set row 0 (pos (ruleGiven g))) 1 (slotGiven g) ≡ faultLaid g row
+fault-two g row h = rw (le-ltb (length row) 2 h) (two-set row (pos (ruleGiven g)) (slotGiven g) h)
+
+-- as the machine writes them: the rule by a callee, the slot read back from its bits
+pub fault-written : (g : Given) (row : List ℤ) {row₁ : List ℤ} {n : ℕ} {z : ℤ} → 2 ≤ length row → n ≡ ruleGiven g → z ≡ slotGiven g → row₁ ≡ set row 0 (pos n) → SFits w32 z
+    → set row₁ 1 (toZ w32 (ofZ w32 z)) ≡ faultLaid g row
+fault-written g row {row₁} {n} {z} h e e′ w f =
+    ap (λ (y : ℤ). set row₁ 1 y) (toZ-ofZ w32 z f ∙ e′)
+    ∙ ap (λ (rs : List ℤ). set rs 1 (slotGiven g)) (w ∙ ap (λ (k : ℕ). set row 0 (pos k)) e)
+    ∙ fault-two g row h
+
+-- an equal answer lays the same
+pub fault-by : (row : List ℤ) {row₁ : List ℤ} {g g′ : Given} → g ≡ g′ → row₁ ≡ faultLaid g row → row₁ ≡ faultLaid g′ row
+fault-by row e w = w ∙ ap (λ (g : Given). faultLaid g row) e
+
 -- ---- all that is told
 
-pub telling : (ws : Words) (q : Site) (k : ℤ) (before after : List Candidate) (old new row told : List ℕ) (a : Answered) (r : ℕ)
-    → Answers ws q k before after old new a → r ≡ numberGiven (a .given) → told ≡ countsLaid (record { n = a .n; m = a .m; o = a .o }) row
-    → Told ws q k before after old new row told r
-telling ws q k before after old new row told a r s g c = record {
+pub telling : (ws : Words) (q : Site) (k : ℤ) (before after : List Candidate) (old new row told : List ℕ) (was fault : List ℤ) (a : Answered) (r : ℕ)
+    → Answers ws q k before after old new a → r ≡ numberGiven (a .given) → told ≡ countsLaid (record { n = a .n; m = a .m; o = a .o }) row → fault ≡ faultLaid (a .given) was
+    → Told ws q k before after old new row told was fault r
+telling ws q k before after old new row told was fault a r s g c w = record {
   given = g ∙ ap (λ (z : Queried). numberGiven (z .given)) s;
   candidates = ap (λ (z : Queried). z .candidates) s;
   answers = ap (λ (z : Queried). z .answers) s;
   counts = c ∙ ap (λ (z : Queried). countsLaid (z .counts) row) s;
+  where-bad = w ∙ ap (λ (z : Queried). faultLaid (z .given) was) s;
 }
 
-pub telling-card : (ws : Words) (n k : ℤ) (old new row told : List ℕ) (c : Carded) (r : ℕ)
-    → Cards ws n k old new c → r ≡ numberGiven (c .given) → told ≡ namesLaid (c .names) row → ToldCard ws n k old new row told r
-telling-card ws n k old new row told c r s g t = record {
+pub telling-card : (ws : Words) (n k : ℤ) (old new row told : List ℕ) (was fault : List ℤ) (c : Carded) (r : ℕ)
+    → Cards ws n k old new c → r ≡ numberGiven (c .given) → told ≡ namesLaid (c .names) row → fault ≡ faultLaid (c .given) was
+    → ToldCard ws n k old new row told was fault r
+telling-card ws n k old new row told was fault c r s g t w = record {
   given = g ∙ ap (λ (z : Listed). numberGiven (z .given)) s;
   list = ap (λ (z : Listed). z .list) s;
   names = t ∙ ap (λ (z : Listed). namesLaid (z .names) row) s;
+  where-bad = w ∙ ap (λ (z : Listed). faultLaid (z .given) was) s;
 }
 
 -- ---- a call for many, by what the check gives

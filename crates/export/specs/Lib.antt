@@ -1,3 +1,4 @@
+pub mod Where
 pub mod Told
 pub mod Sites
 pub mod Cards

@@ -18,7 +18,8 @@ use Rattle.figures.specs.Figures.{LENGTH}
 use Rattle.table.specs.Words.{Words}
 use Rattle.rules.specs.Rules.{wellFormed}
 use Rattle.table.specs.Given.{numberGiven}
-use Rattle.audit.specs.Check.{wrongLength, malformed, checkGives}
+use Rattle.rules.specs.Broken.{faultOf}
+use Rattle.audit.specs.Check.{wrongLength, malformed, checkGives, badAt}
 use Rattle.refusals.specs.Refusals.{noSuchNumber, offGrid, isEnrolled, isFull, enrolGives, withdrawGives}
 
 -- ---- a table that does not pass
@@ -44,24 +45,25 @@ module _ (x y : Given) where
   not-of-two m p q r false true e f = q (ap numberGiven (sym e) ∙ f)
   not-of-two m p q r false false e f = r (ap numberGiven (sym e) ∙ f)
 
-two-pass : (a b : Bool) {g : Given} → g ≡ cond (not a) WrongLength (cond (not b) NotWellFormed Done) → g ≡ Done → (a ≡ true) × (b ≡ true)
-two-pass true true e d = (refl, refl)
-two-pass false b e d = let z : _≡_ {A = ℕ} 1 0 = ap numberGiven (sym e ∙ d) in absurd (omega arith)
-two-pass true false e d = let z : _≡_ {A = ℕ} 2 0 = ap numberGiven (sym e ∙ d) in absurd (omega arith)
+two-pass : (a b : Bool) (rule : ℕ) (slot : ℤ) {g : Given} → g ≡ cond (not a) WrongLength (cond (not b) (NotWellFormed rule slot) Done) → g ≡ Done
+    → (a ≡ true) × (b ≡ true)
+two-pass true true rule slot e d = (refl, refl)
+two-pass false b rule slot e d = let z : _≡_ {A = ℕ} 1 0 = ap numberGiven (sym e ∙ d) in absurd (omega arith)
+two-pass true false rule slot e d = let z : _≡_ {A = ℕ} 2 0 = ap numberGiven (sym e ∙ d) in absurd (omega arith)
 
 module _ (ws : Words) {g : Given} (e : g ≡ checkGives ws) where
   pub enrol-first : (n : ℤ) (p : Site) → (g ≡ Done → ⊥) → g ≡ enrolGives ws n p
   unfolding checkGives enrolGives
-  enrol-first n p d = sym (by-two WrongLength NotWellFormed (wrongLength ws) (malformed ws) e d _)
+  enrol-first n p d = sym (by-two WrongLength (badAt ws) (wrongLength ws) (malformed ws) e d _)
 
   pub withdraw-first : (n : ℤ) → (g ≡ Done → ⊥) → g ≡ withdrawGives ws n
   unfolding checkGives withdrawGives
-  withdraw-first n d = sym (by-two WrongLength NotWellFormed (wrongLength ws) (malformed ws) e d _)
+  withdraw-first n d = sym (by-two WrongLength (badAt ws) (wrongLength ws) (malformed ws) e d _)
 
   pub passes : g ≡ Done → (length ws ≡ LENGTH) × (wellFormed ws ≡ true)
   unfolding checkGives
   passes d =
-      let t = two-pass (eqb (length ws) LENGTH) (wellFormed ws) e d in
+      let t = two-pass (eqb (length ws) LENGTH) (wellFormed ws) (faultOf ws .rule) (faultOf ws .slot) e d in
       (eqb-true (length ws) LENGTH (t .0), t .1)
 
 -- ---- the order

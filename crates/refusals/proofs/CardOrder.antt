@@ -9,13 +9,13 @@ use lib.ListN.{length}
 use borrow.Author.Tests.{eq-eqb}
 use Rattle.words.specs.Word.{natOf}
 use Rattle.table.specs.declared.given.Given.{Given}
-use Rattle.table.specs.declared.given.Given.the-variants.{Done, WrongLength, NotWellFormed, NoSuchNumber, NoSuchK, NotEnrolled, ShortList}
+use Rattle.table.specs.declared.given.Given.the-variants.{Done, WrongLength, NoSuchNumber, NoSuchK, NotEnrolled, ShortList}
 use Rattle.figures.specs.Figures.{LENGTH}
 use Rattle.table.specs.Words.{Words}
 use Rattle.table.specs.Stations.{stations}
 use Rattle.table.specs.Given.{numberGiven}
 use Rattle.rules.specs.Rules.{wellFormed}
-use Rattle.audit.specs.Check.{wrongLength, malformed, checkGives}
+use Rattle.audit.specs.Check.{wrongLength, malformed, checkGives, badAt}
 use Rattle.card.specs.Card.{namesFor}
 use Rattle.refusals.specs.Refusals.{noSuchNumber, noSuchK, isEnrolled, cardGives}
 use Rattle.refusals.specs.Carding.{cardAsked}
@@ -39,13 +39,13 @@ module _ (n k : ℤ) where
 pub check-not-short : (ws : Words) {g : Given} → g ≡ checkGives ws → g ≡ ShortList → ⊥
 unfolding checkGives
 check-not-short ws e f =
-    not-of-two WrongLength NotWellFormed 10 (λ z. omega arith) (λ z. omega arith) (λ z. omega arith) (wrongLength ws) (malformed ws) e (ap numberGiven f)
+    not-of-two WrongLength (badAt ws) 10 (λ z. omega arith) (λ z. omega arith) (λ z. omega arith) (wrongLength ws) (malformed ws) e (ap numberGiven f)
 
 module _ (ws : Words) (n k : ℤ) (places : ℕ) where
   -- what the check refuses, the card refuses
   pub card-first : {g : Given} → g ≡ checkGives ws → (g ≡ Done → ⊥) → g ≡ cardGives ws n k places
   unfolding checkGives cardGives
-  card-first e d = sym (by-two WrongLength NotWellFormed (wrongLength ws) (malformed ws) e d _)
+  card-first e d = sym (by-two WrongLength (badAt ws) (wrongLength ws) (malformed ws) e d _)
 
   module _ (long : length ws ≡ LENGTH) (rules : wellFormed ws ≡ true) where
     pub card-early : {g : Given} → g ≡ cardAsked n k → (g ≡ Done → ⊥) → g ≡ cardGives ws n k places

@@ -37,7 +37,7 @@ pub record Plain (g : Given) : Type 1 where
 pub by-given : {Q : Type 0} (g : Given) → (g ≡ Done → Q) → (g ≡ ShortList → Q) → (Plain g → Q) → Q
 by-given Done d f p = d refl
 by-given WrongLength d f p = p (record { done = λ a b. refl; few = λ a b. refl })
-by-given NotWellFormed d f p = p (record { done = λ a b. refl; few = λ a b. refl })
+by-given (NotWellFormed rule slot) d f p = p (record { done = λ a b. refl; few = λ a b. refl })
 by-given NoSuchNumber d f p = p (record { done = λ a b. refl; few = λ a b. refl })
 by-given OffGrid d f p = p (record { done = λ a b. refl; few = λ a b. refl })
 by-given NoSuchK d f p = p (record { done = λ a b. refl; few = λ a b. refl })

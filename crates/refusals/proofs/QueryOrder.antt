@@ -13,12 +13,12 @@ use Rattle.grid.specs.Site.{Site}
 use Rattle.order.specs.Lists.{All}
 use Rattle.order.proofs.Lists.{by-bool}
 use Rattle.table.specs.declared.given.Given.{Given}
-use Rattle.table.specs.declared.given.Given.the-variants.{Done, WrongLength, NotWellFormed, OffGrid, NoSuchK, FewCandidates, ShortList}
+use Rattle.table.specs.declared.given.Given.the-variants.{Done, WrongLength, OffGrid, NoSuchK, FewCandidates, ShortList}
 use Rattle.figures.specs.Figures.{LENGTH}
 use Rattle.table.specs.Words.{Words, pointsOf}
 use Rattle.rules.specs.Rules.{wellFormed}
 use Rattle.table.specs.Given.{Line, line, numberGiven, firstOf}
-use Rattle.audit.specs.Check.{wrongLength, malformed, checkGives}
+use Rattle.audit.specs.Check.{wrongLength, malformed, checkGives, badAt}
 use Rattle.filter.specs.Query.{answersFound}
 use Rattle.refusals.specs.Refusals.{offGrid, noSuchK, queryGives}
 use Rattle.refusals.proofs.Given.{passed-before}
@@ -50,7 +50,7 @@ module _ (ws : Words) (long : length ws ≡ LENGTH) (rules : wellFormed ws ≡ t
 abbrev before10 : Words → Site → ℤ → ℕ → List Line
 before10 ws q k room =
     line (wrongLength ws) WrongLength
-    ∷ line (malformed ws) NotWellFormed
+    ∷ line (malformed ws) (badAt ws)
     ∷ line (offGrid q) OffGrid
     ∷ line (noSuchK k) NoSuchK
     ∷ line (ltb room (pointsOf ws)) FewCandidates
@@ -98,4 +98,4 @@ module _ (ws : Words) (q : Site) (k : ℤ) (room : ℕ) where
   -- what the check refuses, the query refuses
   pub query-first : {g : Given} → g ≡ checkGives ws → (g ≡ Done → ⊥) → (places : ℕ) → g ≡ queryGives ws q k room places
   unfolding checkGives queryGives
-  query-first e d places = sym (by-two WrongLength NotWellFormed (wrongLength ws) (malformed ws) e d _)
+  query-first e d places = sym (by-two WrongLength (badAt ws) (wrongLength ws) (malformed ws) e d _)

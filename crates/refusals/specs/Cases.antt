@@ -21,7 +21,7 @@ use Rattle.table.specs.declared.given.Given.the-variants.{
 abbrev pub ifDone : {A : Type 0} → Given → A → A → A
 ifDone Done a b = a
 ifDone WrongLength a b = b
-ifDone NotWellFormed a b = b
+ifDone (NotWellFormed rule slot) a b = b
 ifDone NoSuchNumber a b = b
 ifDone OffGrid a b = b
 ifDone NoSuchK a b = b
@@ -38,7 +38,7 @@ abbrev pub ifShortList : {A : Type 0} → Given → A → A → A
 ifShortList ShortList a b = a
 ifShortList Done a b = b
 ifShortList WrongLength a b = b
-ifShortList NotWellFormed a b = b
+ifShortList (NotWellFormed rule slot) a b = b
 ifShortList NoSuchNumber a b = b
 ifShortList OffGrid a b = b
 ifShortList NoSuchK a b = b

@@ -12,13 +12,12 @@ use Rattle.figures.specs.Figures.{MOST, HIGHEST}
 use Rattle.table.specs.Words.{Words, pointsOf, between}
 use Rattle.table.specs.Stations.{stations}
 use Rattle.table.specs.Given.{Line, line, firstOf}
-use Rattle.audit.specs.Check.{wrongLength, malformed}
+use Rattle.audit.specs.Check.{wrongLength, malformed, badAt}
 use Rattle.filter.specs.Query.{answersFound}
 use Rattle.card.specs.Card.{namesFor}
 use Rattle.table.specs.declared.given.Given.{Given}
 use Rattle.table.specs.declared.given.Given.the-variants.{
   WrongLength,
-  NotWellFormed,
   NoSuchNumber,
   OffGrid,
   NoSuchK,
@@ -64,7 +63,7 @@ isFull ws = leb MOST (pointsOf ws)
 abbrev pub enrolLines : Words → ℤ → Site → List Line
 enrolLines ws n p =
     line (wrongLength ws) WrongLength
-    ∷ line (malformed ws) NotWellFormed
+    ∷ line (malformed ws) (badAt ws)
     ∷ line (noSuchNumber n) NoSuchNumber
     ∷ line (offGrid p) OffGrid
     ∷ line (isEnrolled ws n) AlreadyEnrolled
@@ -78,7 +77,7 @@ enrolGives ws n p = firstOf (enrolLines ws n p)
 abbrev pub withdrawLines : Words → ℤ → List Line
 withdrawLines ws n =
     line (wrongLength ws) WrongLength
-    ∷ line (malformed ws) NotWellFormed
+    ∷ line (malformed ws) (badAt ws)
     ∷ line (noSuchNumber n) NoSuchNumber
     ∷ line (not (isEnrolled ws n)) NotEnrolled
     ∷ []
@@ -90,7 +89,7 @@ withdrawGives ws n = firstOf (withdrawLines ws n)
 abbrev pub queryLines : Words → Site → ℤ → ℕ → ℕ → List Line
 queryLines ws q k candidates answers =
     line (wrongLength ws) WrongLength
-    ∷ line (malformed ws) NotWellFormed
+    ∷ line (malformed ws) (badAt ws)
     ∷ line (offGrid q) OffGrid
     ∷ line (noSuchK k) NoSuchK
     ∷ line (ltb candidates (pointsOf ws)) FewCandidates
@@ -104,7 +103,7 @@ queryGives ws q k candidates answers = firstOf (queryLines ws q k candidates ans
 abbrev pub cardLines : Words → ℤ → ℤ → ℕ → List Line
 cardLines ws n k places =
     line (wrongLength ws) WrongLength
-    ∷ line (malformed ws) NotWellFormed
+    ∷ line (malformed ws) (badAt ws)
     ∷ line (noSuchNumber n) NoSuchNumber
     ∷ line (noSuchK k) NoSuchK
     ∷ line (not (isEnrolled ws n)) NotEnrolled

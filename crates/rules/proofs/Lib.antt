@@ -20,3 +20,4 @@ pub mod Held
 pub mod ToRules
 pub mod Unique
 pub mod WellFormed
+pub mod Broken

@@ -2,6 +2,7 @@
 use Prim.Native.Nat.{ℕ}
 use mathlib.Core.Bool.{Bool, cond}
 use mathlib.Core.List.{List, [], _∷_}
+use lib.IntN.{ℤ, pos}
 use Rattle.table.specs.declared.given.Given.{Given}
 use Rattle.table.specs.declared.given.Given.the-variants.{
   Done,
@@ -22,7 +23,7 @@ use Rattle.table.specs.declared.given.Given.the-variants.{
 abbrev pub numberGiven : Given → ℕ
 numberGiven Done = 0
 numberGiven WrongLength = 1
-numberGiven NotWellFormed = 2
+numberGiven (NotWellFormed rule slot) = 2
 numberGiven NoSuchNumber = 3
 numberGiven OffGrid = 4
 numberGiven NoSuchK = 5
@@ -33,6 +34,29 @@ numberGiven FewCandidates = 9
 numberGiven ShortList = 10
 numberGiven Misshapen = 11
 numberGiven SheetTooLong = 12
+
+-- one thing of the rule and the slot if the table is not well formed, another with any other answer
+abbrev pub ifMalformed : {A : Type 0} → Given → (ℕ → ℤ → A) → A → A
+ifMalformed (NotWellFormed rule slot) f other = f rule slot
+ifMalformed Done f other = other
+ifMalformed WrongLength f other = other
+ifMalformed NoSuchNumber f other = other
+ifMalformed OffGrid f other = other
+ifMalformed NoSuchK f other = other
+ifMalformed AlreadyEnrolled f other = other
+ifMalformed Full f other = other
+ifMalformed NotEnrolled f other = other
+ifMalformed FewCandidates f other = other
+ifMalformed ShortList f other = other
+ifMalformed Misshapen f other = other
+ifMalformed SheetTooLong f other = other
+
+-- 02 §4: the rule that is broken and the lowest slot where it is; 0 and 0 with any answer but 2
+abbrev pub ruleGiven : Given → ℕ
+ruleGiven g = ifMalformed g (λ rule slot. rule) 0
+
+abbrev pub slotGiven : Given → ℤ
+slotGiven g = ifMalformed g (λ rule slot. slot) (pos 0)
 
 -- a line of the table of answers: if it holds, what it gives
 pub record Line : Type 0 where

@@ -1,4 +1,4 @@
--- `export::ullagreth_card` hands on what the card gives, by its number, and how many names it has. Assumes nothing.
+-- `export::ullagreth_card` hands on what the card gives, by its number, how many names it has, and where the table is bad. Assumes nothing.
 use Rattle.refusals.proofs.CallTests.{two-back}
 use Rattle.export.specs.Cards.{ToldCard}
 use Rattle.export.proofs.Telling.{telling-card}
@@ -18,19 +18,26 @@ same-length c = search needs
 same-length-2 : tie.Need-same-length-2
 same-length-2 c = search needs
 
+same-length-3 : tie.Need-same-length-3
+same-length-3 c = search needs
+
 returns : tie.Need-returns
 returns c =
-    let t = c .before .before in
-    let r = t .before .before .before .before in
+    let t = c .before .before .before in
+    let r = t .before .before .before .before .before in
     let s = r .before .before .before .before in
     let a = s .args in
     let old = a .list .now in
     let row = a .names .now in
+    let fault = a .fault .now in
     let new = r .card .last .1 .1 .1 .0 in
     let told = t .told-card .last .1 .0 in
-    two-back (λ n k. ToldCard (a .table .now) n k old new row told (t .told-card .result)) (a .number) (a .k) (s .fits .number) (s .fits .k)
-    (telling-card (a .table .now) _ _ old new row told (r .card .result) (t .told-card .result) (r .card .ensures) (t .told-card .ensures .0) (t .told-card .ensures .1))
+    let fault₁ = t .told-card .last .1 .1 .0 in
+    let said = t .told-card .ensures in
+    two-back (λ n k. ToldCard (a .table .now) n k old new row told fault fault₁ (t .told-card .result)) (a .number) (a .k) (s .fits .number) (s .fits .k)
+    (telling-card (a .table .now) _ _ old new row told fault fault₁ (r .card .result) (t .told-card .result) (r .card .ensures) (said .0) (said .1 .0) (said .1 .1))
 
 pub ullagreth-card-spec : {M : Type 1} → statement M
 ullagreth-card-spec =
-    tie.close (tie.spec card-requires told-card-requires same-length same-length-2 returns)
+    tie.close
+    (tie.spec card-requires told-card-requires same-length same-length-2 same-length-3 returns)

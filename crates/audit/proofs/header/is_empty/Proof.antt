@@ -6,6 +6,7 @@ use Rattle.words.specs.Word.{stepsOf}
 use Rattle.table.specs.Words.{word, isMinusOne, pointsOf}
 use Rattle.rules.specs.Rules.{isEmpty}
 use Rattle.table.proofs.Parts.{none-steps}
+use Rattle.audit.proofs.Every.{lowest-every}
 use borrow.Author.Needs.{needs}
 use Rattle.audit.proofs.header.is_empty.Statement.{statement}
 use Rattle.audit.proofs.header.is_empty.Tie as tie
@@ -31,8 +32,8 @@ returns-2 c =
     let f : isMinusOne z ≡ true = sym (none-steps z) ∙ eq-eqb (stepsOf z) 2147483647 (sym (c .before .before .before .steps-at .ensures) ∙ c .before .before .if1 .left) in
     rw (f, ne-eqb (pointsOf ws) 0 (λ e. c .if2 .taken (c .before .points-of .ensures ∙ e)))
 
-every-slot-requires : tie.Need-every-slot-requires
-every-slot-requires c κs = search needs
+first-broken-requires : tie.Need-first-broken-requires
+first-broken-requires c κs = search needs
 
 returns-3 : tie.Need-returns-3
 unfolding isEmpty
@@ -40,9 +41,9 @@ returns-3 c =
     let ws = c .before .before .before .before .before .before .args .table .now in
     let z = word ws 0 in
     let f : isMinusOne z ≡ true = sym (none-steps z) ∙ eq-eqb (stepsOf z) 2147483647 (sym (c .before .before .before .before .before .steps-at .ensures) ∙ c .before .before .before .before .if1 .left) in
-    rw (f, eq-eqb (pointsOf ws) 0 (sym (c .before .before .before .points-of .ensures) ∙ c .before .before .if2 .left)) (c .every-slot .ensures)
+    rw (f, eq-eqb (pointsOf ws) 0 (sym (c .before .before .before .points-of .ensures) ∙ c .before .before .if2 .left)) (lowest-every (c .first-broken .ensures))
 
 pub is-empty-spec : {M : Type 1} → statement M
 is-empty-spec =
     tie.close
-    (tie.spec steps-at-requires returns points-of-requires returns-2 every-slot-requires returns-3)
+    (tie.spec steps-at-requires returns points-of-requires returns-2 first-broken-requires returns-3)

@@ -1,12 +1,11 @@
--- `rules::every_slot` meets its contract: each slot passes the rule, or the loop stops at one that does not. Assumes nothing.
+-- `asked::first_broken` meets its contract: each slot passes the rule, or the loop stops at the first that does not. Assumes nothing.
 use Prim.Native.Nat.{_-_}
 use native.Mathlib.Omega.{arith}
-use mathlib.Core.Path.{sym}
 use Rattle.figures.specs.Figures.{SLOTS}
 use Rattle.audit.specs.Asked.{ruleAt}
-use Rattle.audit.proofs.Every.{Tested, none-tested, one-tested, failed, passed, one-fails, all-pass}
-use Rattle.audit.proofs.asked.every_slot.Statement.{statement}
-use Rattle.audit.proofs.asked.every_slot.Tie as tie
+use Rattle.audit.proofs.Every.{Tested, none-tested, one-tested, failed, passed, found-lowest, none-lowest}
+use Rattle.audit.proofs.asked.first_broken.Statement.{statement}
+use Rattle.audit.proofs.asked.first_broken.Tie as tie
 
 abbrev Inv-loop : tie.InvT-loop
 Inv-loop table rule times slot₀ slot = Tested (ruleAt rule table) SLOTS slot
@@ -21,10 +20,7 @@ holds-at-requires : tie.Need-holds-at-requires Inv-loop μ-loop
 holds-at-requires c κs = (omega arith, omega arith, c .before .before .pre .1)
 
 returns : tie.Need-returns Inv-loop μ-loop
-returns c =
-    let a = c .before .before .before .before .args in
-    let s = c .before .before .before .loop .slot in
-    sym (one-fails (ruleAt (a .rule) (a .table .now)) SLOTS s (omega arith) (failed (c .before .holds-at .ensures) (c .if1 .taken)))
+returns c = found-lowest (c .before .before .before .loop .inv) (failed (c .before .holds-at .ensures) (c .if1 .taken))
 
 add-slot : tie.Need-add-slot Inv-loop μ-loop
 add-slot c = omega arith
@@ -39,13 +35,10 @@ loop-again c =
     one-tested (ruleAt (a .rule) (a .table .now)) SLOTS (l .slot) (l .inv) (omega arith) (passed (c .before .holds-at .ensures) (c .if1 .left))
 
 returns-2 : tie.Need-returns-2 Inv-loop μ-loop
-returns-2 c =
-    let a = c .before .before .args in
-    let l = c .before .loop in
-    sym (all-pass (ruleAt (a .rule) (a .table .now)) SLOTS (l .slot) (l .inv) (omega arith))
+returns-2 c = none-lowest (c .before .loop .inv) (omega arith)
 
-pub every-slot-spec : {M : Type 1} → statement M
-every-slot-spec =
+pub first-broken-spec : {M : Type 1} → statement M
+first-broken-spec =
     tie.close
     (tie.spec
     Inv-loop
