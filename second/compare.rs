@@ -1,6 +1,7 @@
 //! Compares the proved library with the second implementation, word by word.
 //! `compare check|changes|queries|cards|newcomer SEEDS` runs that many seeds and says how many calls agreed; `compare bench` measures.
-//! `compare sheets SEEDS [PROGRAM]` runs the built program on random whole sheets.
+//! `compare sheets SEEDS [PROGRAM]` runs the built program on random whole sheets, `compare lists SEEDS [PROGRAM]` the other one on station lists,
+//! made by hand and random.
 
 mod card;
 mod cards;
@@ -9,6 +10,9 @@ mod checks;
 mod damage;
 mod flat;
 mod library;
+mod list;
+mod list_edges;
+mod lists;
 mod newcomer;
 mod programs;
 mod query;
@@ -29,16 +33,18 @@ use ullagreth::Candidate;
 fn main() {
     let args: Vec<String> = std::env::args().collect();
     let seeds: u64 = args.get(2).and_then(|s| s.parse().ok()).unwrap_or(1);
+    let program = |built| args.get(3).map_or(built, String::as_str);
     match args.get(1).map(String::as_str) {
         Some("check") => checks::checks(seeds),
         Some("changes") => changes(seeds),
         Some("queries") => queries(seeds),
         Some("cards") => cards::cards(seeds),
         Some("newcomer") => newcomer::newcomers(seeds),
-        Some("sheets") => programs::sheets(seeds, args.get(3).map_or("target/bin/ullagreth", String::as_str)),
+        Some("sheets") => programs::sheets(seeds, program("target/bin/ullagreth")),
+        Some("lists") => programs::lists(seeds, program("target/bin/stations")),
         Some("bench") => bench(),
         _ => {
-            eprintln!("usage: compare check|changes|queries|cards|newcomer SEEDS, compare sheets SEEDS [PROGRAM], or compare bench");
+            eprintln!("usage: compare check|changes|queries|cards|newcomer SEEDS, compare sheets|lists SEEDS [PROGRAM], or compare bench");
             std::process::exit(2);
         }
     }

@@ -22,7 +22,8 @@ enum Job {
     Misshapen,
 }
 
-fn number(f: &[u8]) -> Option<i32> {
+/// A field of the sheet, or of a list once unquoted: a number or none.
+pub fn number(f: &[u8]) -> Option<i32> {
     let (minus, digits) = match f.split_first() {
         Some((b'-', rest)) => (true, rest),
         _ => (false, f),

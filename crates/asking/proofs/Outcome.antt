@@ -12,14 +12,14 @@ use Rattle.grid.specs.declared.place.Place.{Place}
 use Rattle.grid.specs.Site.{Site, placeOf}
 use Rattle.grid.proofs.Site.{SiteOnGrid, place-grid}
 use Rattle.order.specs.Lists.{filter, every, All}
-use Rattle.order.proofs.Lists.{all-then}
+use Rattle.order.proofs.Lists.{all-then, and-left, and-right}
 use Rattle.table.specs.declared.node.Entry.{Entry}
 use Rattle.figures.specs.Figures.{MOST}
 use Rattle.table.specs.Words.{Words, word, isMinusOne, pointsOf}
 use Rattle.table.specs.Slots.{slots, isFree}
 use Rattle.table.specs.Stations.{stations, isPoint, stationOfEntry}
 use Rattle.rules.specs.Rules.{isEmpty, Passing}
-use Rattle.rules.proofs.Tests.{by-test, and-left, and-right}
+use Rattle.rules.proofs.Tests.{by-test}
 use Rattle.rules.proofs.Reading.{Point, point, held-points}
 use Rattle.rules.proofs.WellFormed.{well-formed-tree}
 use Rattle.filter.specs.declared.seen.Seen.{Seen}

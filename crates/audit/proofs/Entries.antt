@@ -10,7 +10,7 @@ use lib.Dec.{leb, ltb}
 use lib.ListN.{length, getD, take, drop}
 use lib.Seq.{take-suc, split-at, take-take, getD-take}
 use Rattle.order.specs.Lists.{every, All}
-use Rattle.order.proofs.Lists.{all-mem, mem-all, all-at}
+use Rattle.order.proofs.Lists.{all-mem, mem-all, all-at, and-left, and-right}
 use Rattle.table.specs.declared.node.Entry.{Entry}
 use Rattle.table.specs.declared.node.Node.{Node}
 use Rattle.figures.specs.Figures.{SLOTS, HIGHEST}
@@ -20,7 +20,7 @@ use Rattle.table.specs.Slots.{pageAt, entriesAt}
 use Rattle.table.specs.Stations.{isPoint}
 use Rattle.rules.specs.Rules.{isAbove, isChild, rule5}
 use Rattle.table.proofs.Nodes.{page-at, held-length}
-use Rattle.rules.proofs.Tests.{and-left, and-right, every-all}
+use Rattle.rules.proofs.Tests.{every-all}
 use Rattle.audit.specs.Seen.{refsOf}
 use Rattle.audit.proofs.Every.{Tested, testAt, element-fails, elements-pass}
 

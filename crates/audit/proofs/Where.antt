@@ -12,7 +12,7 @@ use lib.ListN.{length}
 use lib.Signed.{ltZ}
 use Rattle.order.specs.Lists.{every, join, Mem, All}
 use Rattle.order.specs.Order.{upFrom}
-use Rattle.order.proofs.Lists.{by-bool, all-append, all-then, mem-all}
+use Rattle.order.proofs.Lists.{by-bool, all-append, all-then, mem-all, and-left, and-right}
 use Rattle.figures.specs.Figures.{SLOTS, LENGTH}
 use Rattle.table.specs.declared.given.Given.{Given}
 use Rattle.table.specs.declared.given.Given.the-variants.{Done, WrongLength, NotWellFormed, NoSuchNumber, OffGrid, NoSuchK, AlreadyEnrolled, Full, NotEnrolled, FewCandidates, ShortList, Misshapen, SheetTooLong}
@@ -21,7 +21,7 @@ use Rattle.table.specs.Words.{Words}
 use Rattle.table.specs.Slots.{slots}
 use Rattle.rules.specs.Rules.{rule1, rule2, rule3, rule4, rule5, rule6, rule7Header, rule7, wellFormed}
 use Rattle.rules.specs.Broken.{Test, Fault, atHeader, atSlots, ruleByRule, tests, firstBroken, faultOf}
-use Rattle.rules.proofs.Tests.{and-left, and-right, every-all, all-every}
+use Rattle.rules.proofs.Tests.{every-all, all-every}
 use Rattle.rules.proofs.Joined.{all-parts}
 use Rattle.audit.specs.Check.{checkGives}
 use Rattle.audit.specs.Where.{faultGiven, StandsBefore, BadAt, Where}

@@ -9,14 +9,13 @@ use borrow.Author.Tests.{eqb-true, eq-eqb}
 use Rattle.axis.specs.declared.span.Span.{Span}
 use Rattle.order.specs.Lists.{one, join, All, Same}
 use Rattle.order.specs.Order.{Perm}
-use Rattle.order.proofs.Lists.{count-append, all-mem, mem-all, same-perm}
+use Rattle.order.proofs.Lists.{count-append, all-mem, mem-all, same-perm, and-left, and-right}
 use Rattle.table.specs.declared.node.Entry.{Entry}
 use Rattle.figures.specs.Figures.{LEAST, SLOTS}
 use Rattle.table.specs.Stations.{isPoint}
 use Rattle.rules.specs.Rules.{sameSpan, sameRect}
 use Rattle.table.specs.Tree.{Tree, slotsOf, leavesOf, Filled}
 use Rattle.table.proofs.Slots.{entry-fields}
-use Rattle.rules.proofs.Tests.{and-left, and-right}
 use Rattle.rules.proofs.Counted.{number-counted, counted-number, nodup-count, count-nodup}
 use Rattle.rules.proofs.Reading.{Good}
 use Rattle.change.proofs.Frame.{times, Inside, offGrid, Sited}

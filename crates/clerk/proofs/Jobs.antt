@@ -5,10 +5,12 @@ use mathlib.Core.List.{List, [], _∷_}
 use native.Mathlib.Omega.{arith}
 use lib.IntN.{ℤ}
 use lib.ListN.{length, take}
+use Rattle.limits.proofs.Refused.{if-refused}
+use Rattle.grid.specs.Site.{site}
 use Rattle.table.specs.declared.given.Given.{Given}
 use Rattle.table.specs.declared.given.Given.the-variants as given
 use Rattle.table.specs.Words.{Words}
-use Rattle.table.specs.Given.{numberGiven}
+use Rattle.table.specs.Given.{numberGiven, ifDone}
 use Rattle.table.specs.Stations.{stations}
 use Rattle.filter.specs.Query.{answersFound}
 use Rattle.card.specs.Card.{namesFor}
@@ -16,13 +18,11 @@ use Rattle.words.specs.Word.{natOf}
 use Rattle.asking.specs.Slate.{Slate}
 use Rattle.refusals.specs.declared.answered.Answered.{Answered}
 use Rattle.refusals.specs.declared.carding.Carded.{Carded}
-use Rattle.refusals.specs.Refusals.{site, enrolGives, withdrawGives, queryGives, cardGives}
-use Rattle.refusals.specs.Cases.{ifDone}
+use Rattle.refusals.specs.Refusals.{enrolGives, withdrawGives, queryGives, cardGives}
 use Rattle.desk.specs.Calls.{afterEnrol, afterWithdraw, Queried, afterQuery, afterCard}
 use Rattle.desk.specs.Lent.{queried}
 use Rattle.desk.specs.Alone.{blankList, AnswersAlone}
 use Rattle.desk.specs.Carding.{Cards}
-use Rattle.refusals.proofs.Given.{if-refused}
 use Rattle.desk.proofs.Granted.{query-granted, card-granted}
 use Rattle.desk.proofs.CallQuery.{queried-ext}
 use Rattle.sheet.specs.Bytes.{Bytes}

@@ -5,15 +5,15 @@ use mathlib.Core.List.{List, [], _∷_}
 use native.Mathlib.Omega.{arith}
 use lib.ListN.{length, take, length-take}
 use Rattle.words.specs.Word.{natOf}
+use Rattle.grid.specs.Site.{site}
 use Rattle.table.specs.declared.given.Given.{Given}
 use Rattle.table.specs.declared.given.Given.the-variants.{Done}
-use Rattle.table.specs.Given.{numberGiven}
+use Rattle.table.specs.Given.{numberGiven, ifDone}
 use Rattle.table.specs.Stations.{stations}
 use Rattle.rules.specs.Rules.{Passing}
 use Rattle.filter.specs.Query.{answersFound, laidOver}
 use Rattle.card.specs.Card.{namesFor}
-use Rattle.refusals.specs.Refusals.{site, queryGives, cardGives}
-use Rattle.refusals.specs.Cases.{ifDone}
+use Rattle.refusals.specs.Refusals.{queryGives, cardGives}
 use Rattle.desk.specs.Calls.{Queried, afterQuery, afterCard}
 use Rattle.desk.specs.Alone.{blankList}
 use Rattle.desk.specs.Demands.{enrol, withdraw}

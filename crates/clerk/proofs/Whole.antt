@@ -7,16 +7,15 @@ use native.Mathlib.Omega.{arith}
 use lib.Dec.{leb, ltb}
 use lib.ListN.{length, take, replicate, length-replicate}
 use borrow.Author.Tests.{ltb-true, ltb-false, le-ltb}
-use Rattle.order.proofs.Lists.{by-bool}
-use Rattle.rules.proofs.Tests.{and-left}
+use Rattle.order.proofs.Lists.{by-bool, and-left}
 use Rattle.figures.specs.Figures.{MOST}
 use Rattle.table.specs.Empty.{emptyTable}
-use Rattle.sheet.specs.Bytes.{Bytes, FEED, linesOf}
+use Rattle.sheet.specs.Bytes.{Bytes, FEED, LONGEST, linesOf}
 use Rattle.sheet.specs.Marks.{lineOf}
 use Rattle.sheet.proofs.Parted.{lines-done, lines-more, next-beyond}
 use Rattle.slip.proofs.Laid.{laid-front}
 use Rattle.clerk.specs.declared.run.Run.{Run}
-use Rattle.clerk.specs.Sheet.{State, lineOutput, linesOutput, LONGEST, start, sheetOutput}
+use Rattle.clerk.specs.Sheet.{State, lineOutput, linesOutput, start, sheetOutput}
 use Rattle.clerk.specs.Running.{lent, longestLine, Stand, standAt, lineRun, goesOn, linesRun, runFrom, LeftAt, restOutput, LineByLine, emptied, runsOutput, RunPrints, WholeSheet}
 use Rattle.clerk.proofs.Kept.{line-answers}
 use Rattle.clerk.proofs.Going.{goes-on}

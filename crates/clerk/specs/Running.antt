@@ -5,21 +5,21 @@ use mathlib.Core.Bool.{Bool, cond, _&&_}
 use mathlib.Core.List.{List, [], _++_}
 use lib.Dec.{leb, ltb}
 use lib.ListN.{length, take, drop}
+use Rattle.grid.specs.Site.{site}
 use Rattle.figures.specs.Figures.{MOST}
 use Rattle.table.specs.Words.{Words}
 use Rattle.rules.specs.Rules.{Passes}
 use Rattle.table.specs.Given.{numberGiven}
 use Rattle.asking.specs.Slate.{Slate}
-use Rattle.refusals.specs.Refusals.{site}
 use Rattle.desk.specs.Alone.{slateLeft}
-use Rattle.sheet.specs.Bytes.{Bytes, linesOf}
+use Rattle.sheet.specs.Bytes.{Bytes, LONGEST, linesOf}
 use Rattle.sheet.specs.Marks.{lineOf, nextOf}
 use Rattle.jobs.specs.declared.job.Job.{Job}
 use Rattle.jobs.specs.declared.job.Job.the-variants.{Enrol, Withdraw, Query, Card, MissingK, Misshapen}
 use Rattle.jobs.specs.Job.{jobOf}
 use Rattle.slip.specs.Output.{letterOf, outputLine, laidAt, Laid}
 use Rattle.clerk.specs.declared.run.Run.{Run}
-use Rattle.clerk.specs.Sheet.{State, ranJob, ranLine, lineOutput, linesOutput, LONGEST, start, sheetOutput}
+use Rattle.clerk.specs.Sheet.{State, ranJob, ranLine, lineOutput, linesOutput, start, sheetOutput}
 
 -- what is lent: the table and the answer list
 abbrev pub lent : Words → List ℕ → State

@@ -4,17 +4,17 @@ use mathlib.Core.Bool.{cond}
 use mathlib.Core.List.{List, [], _∷_, _++_}
 use lib.Dec.{ltb}
 use lib.ListN.{length, take, replicate}
+use Rattle.grid.specs.Site.{site}
 use Rattle.figures.specs.Figures.{MOST}
 use Rattle.table.specs.Words.{Words}
 use Rattle.table.specs.declared.given.Given.{Given}
 use Rattle.table.specs.declared.given.Given.the-variants as given
-use Rattle.table.specs.Given.{numberGiven}
-use Rattle.refusals.specs.Refusals.{site, enrolGives, withdrawGives}
-use Rattle.refusals.specs.Cases.{ifDone}
+use Rattle.table.specs.Given.{numberGiven, ifDone}
+use Rattle.refusals.specs.Refusals.{enrolGives, withdrawGives}
 use Rattle.desk.specs.Calls.{afterEnrol, afterWithdraw, Queried, afterQuery, Listed, afterCard}
 use Rattle.desk.specs.Alone.{blankList}
 use Rattle.table.specs.Empty.{emptyTable}
-use Rattle.sheet.specs.Bytes.{Bytes, linesOf}
+use Rattle.sheet.specs.Bytes.{Bytes, LONGEST, linesOf}
 use Rattle.jobs.specs.declared.job.Job.{Job}
 use Rattle.jobs.specs.declared.job.Job.the-variants.{Enrol, Withdraw, Query, Card, MissingK, Misshapen}
 use Rattle.jobs.specs.Job.{jobOf}
@@ -77,9 +77,6 @@ lineOutput number st line =
 abbrev pub linesOutput : ℕ → State → List Bytes → Bytes
 linesOutput number st [] = []
 linesOutput number st (l ∷ ls) = lineOutput number st l ++ linesOutput (number + 1) (ranLine st l .state) ls
-
-abbrev pub LONGEST : ℕ
-LONGEST = 65536
 
 -- the line that a sheet too long prints: 0, ?, 12
 abbrev pub tooLongLine : Bytes

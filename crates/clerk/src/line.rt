@@ -3,10 +3,10 @@
 ghost use mathlib.Core.Path.{_≡_};
 ghost use Prim.Native.Nat.{_+_, _≤_};
 ghost use lib.ListN.{length};
+ghost use Rattle.grid.specs.Site.{site};
 ghost use Rattle.figures.specs.Figures.{MOST};
 ghost use Rattle.rules.specs.Rules.{Passes};
 ghost use Rattle.asking.specs.Slate.{slate, Wide};
-ghost use Rattle.refusals.specs.Refusals.{site};
 ghost use Rattle.desk.specs.Alone.{slateLeft};
 ghost use Rattle.jobs.specs.Job.{jobOf};
 ghost use Rattle.clerk.specs.Running.{lent, longestLine, RanJob, RanOne, slateOfJob};

@@ -1,6 +1,7 @@
 -- What an enrolment or a withdrawal leaves behind: a refusal leaves the table. By the definition of each. Assumes nothing.
 use mathlib.Core.Path.{_≡_, sym, _∙_}
 use lib.IntN.{ℤ}
+use Rattle.limits.proofs.Refused.{if-refused}
 use Rattle.words.specs.Word.{natOf}
 use Rattle.grid.specs.Site.{Site}
 use Rattle.table.specs.declared.given.Given.{Given}
@@ -10,7 +11,6 @@ use Rattle.joining.specs.Enrol.{enrolled}
 use Rattle.leaving.specs.Withdraw.{withdrawn}
 use Rattle.refusals.specs.Refusals.{enrolGives, withdrawGives}
 use Rattle.desk.specs.Calls.{pointEntry, afterEnrol, afterWithdraw}
-use Rattle.refusals.proofs.Given.{if-refused}
 
 module _ (ws : Words) (n : ℤ) (p : Site) {g : Given} (e : g ≡ enrolGives ws n p) where
   pub enrol-refused : (g ≡ Done → ⊥) → ws ≡ afterEnrol ws n p

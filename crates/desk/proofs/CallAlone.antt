@@ -6,6 +6,7 @@ use mathlib.Core.List.{List}
 use lib.Dec.{ltb}
 use lib.IntN.{ℤ}
 use lib.ListN.{length, length-replicate}
+use Rattle.limits.proofs.Refused.{if-refused}
 use Rattle.words.specs.Word.{natOf}
 use Rattle.grid.specs.Site.{Site}
 use Rattle.order.proofs.Lists.{by-bool}
@@ -13,6 +14,7 @@ use Rattle.figures.specs.Figures.{MOST}
 use Rattle.table.specs.declared.given.Given.{Given}
 use Rattle.table.specs.declared.given.Given.the-variants.{Done, ShortList}
 use Rattle.table.specs.Words.{Words}
+use Rattle.table.specs.Given.{ifDone}
 use Rattle.filter.specs.Query.{Counts, recordsFound, answersFound, countsOf, laidOver}
 use Rattle.record.specs.declared.Candidate.{Candidate}
 use Rattle.record.specs.Blank.{none}
@@ -22,12 +24,12 @@ use Rattle.asking.specs.Asked.{Replied}
 use Rattle.listing.specs.Listed.{Listed}
 use Rattle.refusals.specs.declared.answered.Answered.{Answered}
 use Rattle.refusals.specs.Refusals.{queryGives}
-use Rattle.refusals.specs.Cases.{ifDone, ifShortList}
+use Rattle.refusals.specs.Cases.{ifShortList}
 use Rattle.refusals.specs.Told.{told}
 use Rattle.desk.specs.Calls.{Queried, afterQuery, zeroCounts, onlyN}
 use Rattle.desk.specs.Lent.{queried, Answers}
 use Rattle.desk.specs.Alone.{blankList, slateLeft, AnswersAlone, SameAnswers, AnyList}
-use Rattle.refusals.proofs.Given.{if-refused, if-not-few}
+use Rattle.refusals.proofs.Given.{if-not-few}
 use Rattle.refusals.proofs.QueryOrder.{answersTold, query-early, not-few, query-late}
 use Rattle.desk.proofs.CallQuery.{answered-ext}
 use Rattle.desk.proofs.CallList.{list-refused, list-told}

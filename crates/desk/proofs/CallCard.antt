@@ -8,6 +8,7 @@ use lib.Dec.{eqb, ltb}
 use lib.IntN.{ℤ}
 use lib.ListN.{length}
 use borrow.Author.Tests.{eqb-true, eq-eqb, ltb-true, ltb-false, lt-ltb, le-ltb, lt-leb, le-leb}
+use Rattle.limits.proofs.Refused.{if-refused}
 use Rattle.words.specs.Word.{natOf}
 use Rattle.order.specs.Lists.{filter, has, Mem, NoDup}
 use Rattle.order.proofs.Lists.{by-bool, filter-mem, mem-filter, has-mem, nodup-one}
@@ -15,14 +16,15 @@ use Rattle.table.specs.declared.given.Given.{Given}
 use Rattle.table.specs.declared.given.Given.the-variants.{Done, ShortList}
 use Rattle.table.specs.Words.{Words}
 use Rattle.table.specs.Stations.{Station, stations}
+use Rattle.table.specs.Given.{ifDone}
 use Rattle.filter.specs.Query.{laidOver}
 use Rattle.card.specs.Card.{namesOf, namesOfFirst, namesFor}
 use Rattle.naming.specs.Named.{Named}
 use Rattle.refusals.specs.declared.carding.Carded.{Carded}
 use Rattle.refusals.specs.Refusals.{cardGives}
-use Rattle.refusals.specs.Cases.{ifDone, ifShortList}
+use Rattle.refusals.specs.Cases.{ifShortList}
 use Rattle.refusals.specs.Carding.{carded, cardTold}
-use Rattle.refusals.proofs.Given.{if-refused, if-not-few}
+use Rattle.refusals.proofs.Given.{if-not-few}
 use Rattle.desk.specs.Calls.{Listed, afterCard}
 use Rattle.desk.specs.Carding.{listed, Cards}
 

@@ -4,6 +4,7 @@ use mathlib.Core.Path.{_≡_, refl, sym, ap, _∙_}
 use mathlib.Core.List.{List}
 use lib.IntN.{ℤ}
 use lib.ListN.{length}
+use Rattle.limits.proofs.Refused.{if-refused}
 use Rattle.grid.specs.Site.{Site}
 use Rattle.table.specs.declared.given.Given.{Given}
 use Rattle.table.specs.declared.given.Given.the-variants.{Done, ShortList}
@@ -14,7 +15,7 @@ use Rattle.refusals.specs.declared.answered.Answered.{Answered}
 use Rattle.refusals.specs.Refusals.{queryGives}
 use Rattle.desk.specs.Calls.{Queried, afterQuery}
 use Rattle.desk.specs.Lent.{queried}
-use Rattle.refusals.proofs.Given.{if-refused, if-not-few}
+use Rattle.refusals.proofs.Given.{if-not-few}
 
 -- ---- what a refusal leaves behind
 

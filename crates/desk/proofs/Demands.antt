@@ -7,13 +7,14 @@ use mathlib.Core.List.{List, [], _∷_}
 use lib.Dec.{eqb}
 use lib.ListN.{length}
 use native.Mathlib.Omega.{arith}
+use Rattle.limits.proofs.Refused.{if-refused}
 use Rattle.words.specs.Word.{natOf}
 use Rattle.order.specs.Order.{Perm, pskip, ptrans}
 use Rattle.order.proofs.Perm.{prefl}
 use Rattle.order.specs.Lists.{All}
 use Rattle.table.specs.declared.given.Given.{Given}
 use Rattle.table.specs.declared.given.Given.the-variants.{Done}
-use Rattle.table.specs.Given.{Line, numberGiven, firstOf}
+use Rattle.table.specs.Given.{Line, numberGiven, firstOf, ifDone}
 use Rattle.audit.specs.Check.{checkLines, checkGives}
 use Rattle.table.specs.Words.{Words}
 use Rattle.table.specs.Stations.{Station, stations}
@@ -24,10 +25,10 @@ use Rattle.filter.specs.Query.{Counts, countsOf, recordsFound, answersFound, la
 use Rattle.filter.proofs.Rising.{perm-filter}
 use Rattle.card.specs.Card.{namesFor}
 use Rattle.refusals.specs.Refusals.{enrolLines, enrolGives, withdrawLines, withdrawGives, queryLines, queryGives, cardLines, cardGives}
-use Rattle.refusals.specs.Cases.{ifDone, ifShortList}
+use Rattle.refusals.specs.Cases.{ifShortList}
 use Rattle.desk.specs.Calls.{pointEntry, afterEnrol, afterWithdraw, afterQuery, zeroCounts, onlyN, afterCard}
 use Rattle.desk.specs.Demands.{First, Exactly, Demand1, Demand2, GrantedCards, Call, enrol, withdraw, look, tableAfter, pointsAfter, pointsAfterAll, Demand3, AnyCalls}
-use Rattle.refusals.proofs.Given.{if-refused, if-not-few, by-done}
+use Rattle.refusals.proofs.Given.{if-not-few, by-done}
 use Rattle.desk.proofs.Granted.{full-points, card-granted}
 use Rattle.desk.proofs.CallCard.{number-station, names-of-it}
 use Rattle.desk.proofs.Passing.{passing-points, passing-few, passing-once, passing-nodes, passing-levels}

@@ -16,7 +16,7 @@ use Rattle.table.specs.declared.given.Given.the-variants.{Done}
 use Rattle.figures.specs.Figures.{MOST, HIGHEST}
 use Rattle.table.specs.Words.{Words, pointsOf}
 use Rattle.table.specs.Stations.{Station, stations, isPoint, stationOfEntry}
-use Rattle.table.specs.Given.{firstOf}
+use Rattle.table.specs.Given.{firstOf, ifDone}
 use Rattle.table.specs.Empty.{emptyTable}
 use Rattle.rules.specs.Rules.{Passing}
 use Rattle.rules.proofs.Size.{sound-bounds}
@@ -30,7 +30,7 @@ use Rattle.filter.proofs.Answers.{answers-right, candidates-few, candidates-poi
 use Rattle.filter.proofs.Meaning.{few-all-answer}
 use Rattle.filter.proofs.Rows.{laid-length}
 use Rattle.refusals.specs.Refusals.{numbersOf, queryGives}
-use Rattle.refusals.specs.Cases.{ifDone, ifShortList}
+use Rattle.refusals.specs.Cases.{ifShortList}
 use Rattle.desk.specs.Calls.{afterQuery}
 use Rattle.refusals.proofs.Given.{by-given}
 use Rattle.desk.proofs.Granted.{Within, query-granted, query-short, queryLines, passing-query}

@@ -11,7 +11,7 @@ use Rattle.words.specs.Word.{natOf, onGrid}
 use Rattle.grid.specs.Site.{Site}
 use Rattle.grid.proofs.Site.{SiteOnGrid}
 use Rattle.order.specs.Lists.{All}
-use Rattle.order.proofs.Lists.{by-bool}
+use Rattle.order.proofs.Lists.{by-bool, and-left, and-right}
 use Rattle.table.specs.declared.given.Given.the-variants.{
   Done,
   WrongLength,
@@ -27,13 +27,14 @@ use Rattle.table.specs.declared.given.Given.the-variants.{
 use Rattle.figures.specs.Figures.{MOST, LENGTH, HIGHEST}
 use Rattle.table.specs.Words.{Words, pointsOf, between}
 use Rattle.table.specs.Stations.{stations}
+use Rattle.limits.specs.Limits.{noSuchNumber, offGrid, noSuchK}
 use Rattle.rules.specs.Rules.{wellFormed, Passing}
 use Rattle.table.specs.Given.{Line, line, firstOf}
 use Rattle.audit.specs.Check.{wrongLength, malformed, checkGives, badAt}
 use Rattle.filter.specs.Query.{answersFound}
 use Rattle.card.specs.Card.{namesFor}
-use Rattle.rules.proofs.Tests.{and-left, and-right, between-true}
-use Rattle.refusals.specs.Refusals.{noSuchNumber, offGrid, noSuchK, isEnrolled, isFull, enrolGives, withdrawGives, queryGives, cardGives}
+use Rattle.rules.proofs.Tests.{between-true}
+use Rattle.refusals.specs.Refusals.{isEnrolled, isFull, enrolGives, withdrawGives, queryGives, cardGives}
 use Rattle.refusals.proofs.Given.{passed-before, last-holds, all-passed}
 
 -- ---- a line that is passed

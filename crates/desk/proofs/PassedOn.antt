@@ -7,8 +7,7 @@ use borrow.Author.Tests.{eq-eqb}
 use lib.Dec.{eqb}
 use lib.ListN.{length, drop}
 use Rattle.order.specs.Lists.{every}
-use Rattle.order.proofs.Lists.{by-bool}
-use Rattle.rules.proofs.Tests.{and-left, and-right}
+use Rattle.order.proofs.Lists.{by-bool, and-left, and-right}
 use Rattle.table.specs.declared.given.Given.{Given}
 use Rattle.table.specs.declared.given.Given.the-variants.{Done, WrongLength}
 use Rattle.table.specs.Given.{numberGiven, Line, firstOf}

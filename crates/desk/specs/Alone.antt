@@ -10,10 +10,11 @@ use Rattle.figures.specs.Figures.{MOST}
 use Rattle.table.specs.Words.{Words}
 use Rattle.record.specs.declared.Candidate.{Candidate}
 use Rattle.record.specs.Blank.{none}
+use Rattle.table.specs.Given.{ifDone}
 use Rattle.asking.specs.Slate.{Slate, slateAfter}
 use Rattle.refusals.specs.declared.answered.Answered.{Answered}
 use Rattle.refusals.specs.Refusals.{queryGives}
-use Rattle.refusals.specs.Cases.{ifDone, ifShortList}
+use Rattle.refusals.specs.Cases.{ifShortList}
 use Rattle.desk.specs.Calls.{Queried, afterQuery}
 
 -- a list of 500

@@ -9,6 +9,7 @@ use Rattle.grid.specs.Place.{spotOf}
 use Rattle.table.specs.declared.node.Entry.{Entry}
 use Rattle.table.specs.Words.{Words}
 use Rattle.table.specs.Stations.{stations}
+use Rattle.table.specs.Given.{ifDone}
 use Rattle.joining.specs.Enrol.{enrolled}
 use Rattle.leaving.specs.Withdraw.{withdrawn}
 use Rattle.record.specs.declared.Candidate.{Candidate}
@@ -16,7 +17,7 @@ use Rattle.card.specs.Card.{namesFor}
 use Rattle.filter.specs.Query.{Counts, recordsFound, answersFound, countsOf, laidOver}
 use Rattle.table.specs.declared.given.Given.{Given}
 use Rattle.refusals.specs.Refusals.{enrolGives, withdrawGives, queryGives, cardGives}
-use Rattle.refusals.specs.Cases.{ifDone, ifShortList}
+use Rattle.refusals.specs.Cases.{ifShortList}
 
 -- a point's entry in a leaf
 abbrev pub pointEntry : ℤ → Site → Entry

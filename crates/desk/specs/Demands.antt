@@ -13,7 +13,7 @@ use Rattle.order.specs.Order.{Perm}
 use Rattle.order.specs.Lists.{count, filter, Mem, All}
 use Rattle.table.specs.declared.given.Given.{Given}
 use Rattle.table.specs.declared.given.Given.the-variants.{Done, Full, ShortList}
-use Rattle.table.specs.Given.{Line}
+use Rattle.table.specs.Given.{Line, ifDone}
 use Rattle.figures.specs.Figures.{MOST, SLOTS}
 use Rattle.table.specs.Words.{Words}
 use Rattle.table.specs.Slots.{slots, isFree, levelAt}
@@ -25,7 +25,6 @@ use Rattle.record.specs.declared.Candidate.{Candidate}
 use Rattle.filter.specs.Query.{found, recordOf, recordsFound, countsOf, laidOver}
 use Rattle.card.specs.Card.{namesOf, namesFor}
 use Rattle.refusals.specs.Refusals.{enrolLines, enrolGives, withdrawLines, withdrawGives, queryLines, cardLines}
-use Rattle.refusals.specs.Cases.{ifDone}
 use Rattle.desk.specs.Calls.{afterEnrol, afterWithdraw, Queried, afterQuery, zeroCounts, onlyN, Listed, afterCard}
 
 -- ---- demand 1: every call gives the number of the first line of 01 and 02 that holds, and a refusal changes nothing, but for 10 of the query and of the card.

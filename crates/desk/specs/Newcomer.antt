@@ -10,10 +10,11 @@ use Rattle.order.specs.Lists.{Mem, All}
 use Rattle.table.specs.declared.given.Given.the-variants.{Done}
 use Rattle.table.specs.Words.{Words}
 use Rattle.table.specs.Stations.{Station, stations}
+use Rattle.limits.specs.Limits.{noSuchNumber, offGrid}
 use Rattle.rules.specs.Rules.{Passing}
 use Rattle.filter.specs.Meaning.{answersTo}
 use Rattle.card.specs.Card.{namesOf}
-use Rattle.refusals.specs.Refusals.{noSuchNumber, offGrid, isFull, enrolGives}
+use Rattle.refusals.specs.Refusals.{isFull, enrolGives}
 use Rattle.desk.specs.Calls.{afterEnrol}
 
 -- a newcomer that can join: the table has room, its place is on the grid, its number is a point number above every enrolled one

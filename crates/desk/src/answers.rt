@@ -1,8 +1,8 @@
 // A query for who wants the answers alone: the rows that it writes on are lent to it, so that who asks many queries makes them once.
+ghost use Rattle.grid.specs.Site.{site};
 ghost use Rattle.rules.specs.Rules.{Passes};
 ghost use Rattle.figures.specs.Figures.{MOST};
 ghost use Rattle.asking.specs.Slate.{slate, Wide};
-ghost use Rattle.refusals.specs.Refusals.{site};
 ghost use Rattle.desk.specs.Alone.{AnswersAlone};
 use asking::answer::answer;
 use figures::Table;

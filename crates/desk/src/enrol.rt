@@ -1,7 +1,8 @@
 // Enrolment, with its refusals in document 01's order: 1, 2, 3, 4, 6, 7.
 ghost use mathlib.Core.Path.{_≡_};
+ghost use Rattle.grid.specs.Site.{site};
 ghost use Rattle.rules.specs.Rules.{Passes};
-ghost use Rattle.refusals.specs.Refusals.{site, enrolGives};
+ghost use Rattle.refusals.specs.Refusals.{enrolGives};
 ghost use Rattle.desk.specs.Calls.{pointEntry, afterEnrol};
 use audit::check;
 use grid::place::Place;

@@ -1,6 +1,6 @@
 // The reverse k-nearest query, with its refusals in document 01's order: 1, 2, 4, 5, 9, 10. The candidate list is a lent row of records.
+ghost use Rattle.grid.specs.Site.{site};
 ghost use Rattle.rules.specs.Rules.{Passes};
-ghost use Rattle.refusals.specs.Refusals.{site};
 ghost use Rattle.desk.specs.Lent.{Answers};
 use audit::check;
 use listing::listed::answer_listed;

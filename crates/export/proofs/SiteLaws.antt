@@ -7,8 +7,9 @@ use mathlib.Core.List.{List, [], _∷_, _++_, map, zipWith}
 use lib.IntN.{ℤ, pos}
 use lib.ListN.{length, getD, take, set, length-map, List·getD-map}
 use lib.Seq.{take-suc, take-all, length-take-le}
+use Rattle.limits.proofs.Refused.{if-refused}
 use Rattle.words.specs.Word.{natOf}
-use Rattle.grid.specs.Site.{Site}
+use Rattle.grid.specs.Site.{Site, site}
 use Rattle.table.specs.declared.given.Given.{Given}
 use Rattle.table.specs.declared.given.Given.the-variants.{Done}
 use Rattle.figures.specs.Figures.{MOST}
@@ -18,11 +19,10 @@ use Rattle.filter.specs.Query.{answersFound, laidOver}
 use Rattle.filter.proofs.Rows.{laid-set}
 use Rattle.asking.specs.Slate.{Slate}
 use Rattle.refusals.specs.declared.answered.Answered.{Answered}
-use Rattle.refusals.specs.Refusals.{site, queryGives}
+use Rattle.refusals.specs.Refusals.{queryGives}
 use Rattle.desk.specs.Calls.{afterQuery}
 use Rattle.desk.specs.Alone.{AnswersAlone}
 use Rattle.desk.proofs.CallAlone.{blank-long}
-use Rattle.refusals.proofs.Given.{if-refused}
 use Rattle.desk.proofs.Granted.{query-granted}
 use Rattle.export.specs.Sites.{sitesOf, siteCount, countsAt, countsOver, sitesAfter}
 use Rattle.export.proofs.Telling.{check-refuses, check-passes}

@@ -9,18 +9,17 @@ use mir.ValLaws.{toZ-ofZ}
 use lib.IntN.{ℤ, pos}
 use lib.ListN.{length, set}
 use borrow.Author.Tests.{lt-ltb, le-ltb}
+use Rattle.limits.proofs.Refused.{if-refused}
 use Rattle.grid.specs.Site.{Site}
 use Rattle.table.specs.declared.given.Given.{Given}
 use Rattle.table.specs.declared.given.Given.the-variants.{Done}
 use Rattle.table.specs.Words.{Words}
-use Rattle.table.specs.Given.{numberGiven, ruleGiven, slotGiven}
+use Rattle.table.specs.Given.{numberGiven, ruleGiven, slotGiven, ifDone}
 use Rattle.audit.specs.Check.{checkGives}
 use Rattle.filter.specs.Query.{Counts, laidOver}
 use Rattle.record.specs.declared.Candidate.{Candidate}
 use Rattle.refusals.specs.declared.answered.Answered.{Answered}
 use Rattle.refusals.specs.declared.carding.Carded.{Carded}
-use Rattle.refusals.specs.Cases.{ifDone}
-use Rattle.refusals.proofs.Given.{if-refused}
 use Rattle.desk.specs.Calls.{Queried, Listed}
 use Rattle.desk.specs.Lent.{Answers}
 use Rattle.desk.specs.Carding.{Cards}

@@ -7,10 +7,9 @@ use lib.Dec.{ltb}
 use lib.IntN.{ℤ}
 use lib.ListN.{length, take, drop}
 use Rattle.table.specs.Words.{Words}
-use Rattle.table.specs.Given.{numberGiven}
+use Rattle.table.specs.Given.{numberGiven, ifDone}
 use Rattle.audit.specs.Check.{checkGives}
 use Rattle.filter.specs.Query.{laidOver}
-use Rattle.refusals.specs.Cases.{ifDone}
 use Rattle.desk.specs.Calls.{afterCard}
 use Rattle.export.specs.Where.{faultLaid}
 

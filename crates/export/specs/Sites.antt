@@ -4,13 +4,13 @@ use mathlib.Core.List.{List, map, zipWith}
 use lib.IntN.{ℤ}
 use lib.ListN.{length, take}
 use Rattle.words.specs.Word.{natOf}
-use Rattle.grid.specs.Site.{Site}
+use Rattle.grid.specs.Site.{Site, site}
 use Rattle.figures.specs.Figures.{MOST}
 use Rattle.table.specs.Words.{Words}
+use Rattle.table.specs.Given.{ifDone}
 use Rattle.audit.specs.Check.{checkGives}
 use Rattle.filter.specs.Query.{answersFound, laidOver}
-use Rattle.refusals.specs.Refusals.{site, queryGives}
-use Rattle.refusals.specs.Cases.{ifDone}
+use Rattle.refusals.specs.Refusals.{queryGives}
 
 -- the places, an x with each y: as many as the shorter list has
 abbrev pub sitesOf : List ℤ → List ℤ → List Site

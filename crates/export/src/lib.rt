@@ -1,9 +1,10 @@
 // The calls for C and Rust programs, as a static library: numbers and lent rows, answers by document 01's numbers. The declarations for both stand in bindings/.
 // It promises what desk promises. It stands on desk. None of them has a `requires`.
 ghost use mathlib.Core.Path.{_≡_};
+ghost use Rattle.grid.specs.Site.{site};
 ghost use Rattle.table.specs.Given.{numberGiven};
 ghost use Rattle.audit.specs.Check.{checkGives};
-ghost use Rattle.refusals.specs.Refusals.{site, enrolGives, withdrawGives};
+ghost use Rattle.refusals.specs.Refusals.{enrolGives, withdrawGives};
 ghost use Rattle.desk.specs.Calls.{afterEnrol, afterWithdraw};
 ghost use Rattle.export.specs.Where.{faultLaid};
 ghost use Rattle.export.specs.Told.{countsLaid, Told};

@@ -2,10 +2,10 @@
 ghost use mathlib.Core.Path.{_≡_};
 ghost use Prim.Native.Nat.{min};
 ghost use lib.ListN.{length};
+ghost use Rattle.grid.specs.Site.{site};
 ghost use Rattle.figures.specs.Figures.{MOST};
 ghost use Rattle.rules.specs.Rules.{Passes};
 ghost use Rattle.asking.specs.Slate.{slate, Wide};
-ghost use Rattle.refusals.specs.Refusals.{site};
 ghost use Rattle.export.specs.Sites.{siteCount, countsOver};
 use desk::answers::answers_passing;
 use figures::Table;

@@ -18,7 +18,7 @@ use Rattle.grid.proofs.Site.{SiteWords, SiteOnGrid, site-words, dist-sites}
 use Rattle.order.specs.Lists.{count, one, filter, every, join, Mem, All, NoDup}
 use Rattle.order.specs.Order.{Perm, ptrans}
 use Rattle.order.proofs.Perm.{psym, perm-map}
-use Rattle.order.proofs.Lists.{by-bool, count-append, perm-count, count-mem, all-mem, mem-all, all-perm, perm-nodup, all-then}
+use Rattle.order.proofs.Lists.{by-bool, count-append, perm-count, count-mem, all-mem, mem-all, all-perm, perm-nodup, all-then, and-left, and-right}
 use Rattle.table.specs.declared.node.Entry.{Entry}
 use Rattle.table.specs.Words.{Words, word, isMinusOne, pointsOf, partAt}
 use Rattle.table.specs.Page.{pageOf}
@@ -32,7 +32,7 @@ use Rattle.filter.specs.Walk.{Found, spotIn, walk}
 use Rattle.filter.specs.Query.{nothing, found, answersFound}
 use Rattle.filter.proofs.Rising.{filter-append, filter-none, perm-filter, rising-same}
 use Rattle.filter.proofs.Steps.{Hidden, Step, step-few, step-all, step-walk}
-use Rattle.rules.proofs.Tests.{and-left, and-right, by-test}
+use Rattle.rules.proofs.Tests.{by-test}
 use Rattle.rules.proofs.Joined.{nodup-left, nodup-apart}
 use Rattle.rules.proofs.Reading.{Point, point, good-root, stored-level, held-points}
 use Rattle.rules.proofs.Held.{held-stations, not-empty}

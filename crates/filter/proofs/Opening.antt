@@ -11,14 +11,14 @@ use Rattle.grid.specs.Place.{Upright}
 use Rattle.grid.specs.Site.{Site, placeOf}
 use Rattle.grid.proofs.Site.{SiteOnGrid, place-grid}
 use Rattle.order.specs.Lists.{All}
-use Rattle.order.proofs.Lists.{all-mem, all-map}
+use Rattle.order.proofs.Lists.{all-mem, all-map, and-left, and-right}
 use Rattle.table.specs.declared.node.Entry.{Entry}
 use Rattle.figures.specs.Figures.{LENGTH, LEAST}
 use Rattle.table.specs.Words.{Words, rootOf, pointsOf, isMinusOne, word}
 use Rattle.table.specs.Slots.{levelAt}
 use Rattle.rules.specs.Rules.{isEmpty, wellFormed}
 use Rattle.table.specs.Tree.{Tree, topOf, entryOfTree, leastOf, Stored}
-use Rattle.rules.proofs.Tests.{and-left, and-right, by-test}
+use Rattle.rules.proofs.Tests.{by-test}
 use Rattle.rules.proofs.Size.{some-leaf, sound-bounds}
 use Rattle.rules.proofs.Reading.{
   Good,

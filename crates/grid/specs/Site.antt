@@ -8,6 +8,9 @@ pub record Site : Type 0 where
   pub x : ℤ
   pub y : ℤ
 
+abbrev pub site : ℤ → ℤ → Site
+site a b = record { x = a; y = b }
+
 -- the squared distance of two coordinates
 unfoldable pub squareApart : ℤ → ℤ → ℕ
 squareApart a b = natAbs (a -ℤ b) * natAbs (a -ℤ b)

@@ -1,7 +1,7 @@
 -- The laws of digits: a test of every byte, one byte after another, and the value of digits, with its bounds, by recursion on the bytes. Assumes nothing.
 use Prim.Native.Nat.{ℕ, zero, suc, _+_, _-_, _*_, _^_, _≤_, _<_}
 use mathlib.Core.Path.{_≡_, refl, ap, _∙_}
-use mathlib.Core.Bool.{Bool, true, false, _&&_}
+use mathlib.Core.Bool.{Bool, true, false}
 use mathlib.Core.List.{[], _∷_}
 use native.Mathlib.Omega.{arith}
 use native.Mathlib.Nat.{le-of-suc-le-suc, pow-succ', mul-le-mul-right, pow-le-pow-right}
@@ -14,19 +14,12 @@ use borrow.Author.Tests.{leb-true, eq-eqb, ne-eqb}
 use mir.Syntax.{w32}
 use mir.Val.{SFits, toZ, ofZ}
 use mir.ValLaws.{toZ-ofZ, toZ-pos}
+use Rattle.order.proofs.Lists.{and-left, and-right}
 use Rattle.order.specs.Lists.{every}
 use Rattle.table.specs.Words.{between}
 use Rattle.sheet.specs.Bytes.{Bytes}
 use Rattle.jobs.specs.declared.number.Read.the-variants.{NoNumber}
 use Rattle.jobs.specs.Number.{MINUS, ZERO, isDigit, startsWithZero, isPlain, valueFrom, valueOf, plainNumber, negativeNumber, readNumber}
-
-pub and-left : (a b : Bool) → (a && b) ≡ true → a ≡ true
-and-left true b e = refl
-and-left false b e = e
-
-pub and-right : (a b : Bool) → (a && b) ≡ true → b ≡ true
-and-right true b e = e
-and-right false b e = absurd (let z : _≡_ {A = ℕ} 0 1 = cc in omega arith)
 
 -- ---- a test of every byte
 
@@ -79,7 +72,7 @@ module _ (bs : Bytes) (plain : isPlain bs ≡ true) where
       let e = and-left (between 1 7 (length bs)) _ plain in
       (leb-true _ _ (and-left (leb 1 (length bs)) _ e), leb-true _ _ (and-right (leb 1 (length bs)) _ e))
 
-  plain-digits : every isDigit bs ≡ true
+  pub plain-digits : every isDigit bs ≡ true
   unfolding isPlain
   plain-digits = and-left (every isDigit bs) _ (and-right (between 1 7 (length bs)) _ plain)
 

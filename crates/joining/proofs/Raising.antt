@@ -19,8 +19,8 @@ use Rattle.table.specs.Slots.{slots, isFree, levelAt, putPage, lowestFree, entr
 use Rattle.rules.specs.Rules.{isEmpty}
 use Rattle.table.specs.Tree.{Tree, topOf, entryOfTree, slotsOf, leavesOf, leastOf}
 use Rattle.table.proofs.Nodes.{shown-page, shows-on}
-use Rattle.rules.proofs.Tests.{and-left, and-right, by-test}
-use Rattle.order.proofs.Lists.{all-then, all-map}
+use Rattle.rules.proofs.Tests.{by-test}
+use Rattle.order.proofs.Lists.{all-then, all-map, and-left, and-right}
 use Rattle.rules.proofs.Size.{some-leaf}
 use Rattle.rules.proofs.Reading.{Good, good-root, least-some, held-root, held-points, top-inside, stored-level, stored-entry}
 use Rattle.rules.proofs.WellFormed.{Held, well-formed-tree}

@@ -2,18 +2,17 @@
 ghost use Prim.Native.Nat.{_≤_};
 ghost use lib.ListN.{length};
 ghost use Rattle.rules.specs.Rules.{Passes};
+ghost use Rattle.sheet.specs.Bytes.{LONGEST};
 ghost use Rattle.slip.specs.Output.{Laid};
-ghost use Rattle.clerk.specs.Sheet.{LONGEST, tooLongLine};
+ghost use Rattle.clerk.specs.Sheet.{tooLongLine};
 ghost use Rattle.clerk.specs.Running.{longestLine};
 use clerk::run::run_lines;
 use clerk::start::clear;
 use figures::Table;
+use sheet::marks::LONGEST;
 use slip::put_line;
 use table::given::Given;
 use table::given::number_given;
-
-// The most bytes that a sheet has.
-pub const LONGEST: usize = 65536;
 
 // The bytes that are written at a time.
 const ROOM: usize = 65536;

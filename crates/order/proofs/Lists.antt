@@ -38,6 +38,15 @@ by-bool Q false y n = n refl
 pub by-leb : (Q : Bool → Type 0) (a b : ℕ) → (a ≤ b → Q true) → (b < a → Q false) → Q (leb a b)
 by-leb Q a b y n = by-bool Q (leb a b) (λ e. y (leb-true a b e)) (λ e. n (leb-false a b e))
 
+-- two tests that both pass
+pub and-left : (a b : Bool) → (a && b) ≡ true → a ≡ true
+and-left true b e = refl
+and-left false b e = e
+
+pub and-right : (a b : Bool) → (a && b) ≡ true → b ≡ true
+and-right true b e = e
+and-right false b e = absurd (false≢true e)
+
 -- ---- maps
 
 -- below the length no default is met

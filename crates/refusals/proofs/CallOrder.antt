@@ -1,36 +1,25 @@
 -- The lines of an enrolment and of a withdrawal in their order: what the check refuses is refused, and on a table that passes it the first line that holds is given. By the tests of the lines. Assumes nothing.
 use Prim.Native.Nat.{ℕ}
 use native.Mathlib.Omega.{arith}
-use mathlib.Core.Path.{_≡_, refl, sym, ap, _∙_, subst}
+use mathlib.Core.Path.{_≡_, refl, sym, ap, _∙_}
 use mathlib.Core.Bool.{Bool, true, false, cond, not}
-use mathlib.Core.List.{List, [], _∷_}
 use lib.Dec.{eqb}
 use lib.IntN.{ℤ}
 use lib.ListN.{length}
-use denote.Enum.Declared.{tagOf}
-use types.Run.{OneOf, miss}
 use borrow.Author.Tests.{eq-eqb, eqb-true}
 use Rattle.grid.specs.Site.{Site}
 use Rattle.table.specs.declared.given.Given.{Given}
 use Rattle.table.specs.declared.given.Given.the-variants.{Done, WrongLength, NotWellFormed, NoSuchNumber, OffGrid, AlreadyEnrolled, Full, NotEnrolled}
-use Rattle.table.proofs.given.Given.{the-type}
 use Rattle.figures.specs.Figures.{LENGTH}
 use Rattle.table.specs.Words.{Words}
+use Rattle.limits.specs.Limits.{noSuchNumber, offGrid}
 use Rattle.rules.specs.Rules.{wellFormed}
 use Rattle.table.specs.Given.{numberGiven}
 use Rattle.rules.specs.Broken.{faultOf}
 use Rattle.audit.specs.Check.{wrongLength, malformed, checkGives, badAt}
-use Rattle.refusals.specs.Refusals.{noSuchNumber, offGrid, isEnrolled, isFull, enrolGives, withdrawGives}
+use Rattle.refusals.specs.Refusals.{isEnrolled, isFull, enrolGives, withdrawGives}
 
 -- ---- a table that does not pass
-
--- the tags of the refusals
-abbrev refusals : List ℕ
-refusals = 1 ∷ 2 ∷ 3 ∷ 4 ∷ 5 ∷ 6 ∷ 7 ∷ 8 ∷ 9 ∷ 10 ∷ 11 ∷ 12 ∷ []
-
--- an answer with one of these is none that grants
-pub not-done : (g : Given) → OneOf refusals (tagOf the-type g) → g ≡ Done → ⊥
-not-done g m e = miss refusals 0 tt (subst (λ (h : Given). OneOf refusals (tagOf the-type h)) e m)
 
 -- of two lines: what they refuse is refused, whatever stands behind them
 module _ (x y : Given) where

@@ -14,10 +14,11 @@ use Rattle.figures.specs.Figures.{LENGTH}
 use Rattle.table.specs.Words.{Words}
 use Rattle.table.specs.Stations.{stations}
 use Rattle.table.specs.Given.{numberGiven}
+use Rattle.limits.specs.Limits.{noSuchNumber, noSuchK}
 use Rattle.rules.specs.Rules.{wellFormed}
 use Rattle.audit.specs.Check.{wrongLength, malformed, checkGives, badAt}
 use Rattle.card.specs.Card.{namesFor}
-use Rattle.refusals.specs.Refusals.{noSuchNumber, noSuchK, isEnrolled, cardGives}
+use Rattle.refusals.specs.Refusals.{isEnrolled, cardGives}
 use Rattle.refusals.specs.Carding.{cardAsked}
 use Rattle.refusals.proofs.CallOrder.{by-two, not-of-two}
 

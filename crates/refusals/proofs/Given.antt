@@ -5,7 +5,7 @@ use mathlib.Core.List.{List, [], _∷_, _++_}
 use lib.Dec.{eqb}
 use borrow.Author.Tests.{eq-eqb}
 use Rattle.order.specs.Lists.{every, All}
-use Rattle.order.proofs.Lists.{by-bool}
+use Rattle.order.proofs.Lists.{by-bool, and-left, and-right}
 use Rattle.table.specs.declared.given.Given.{Given}
 use Rattle.table.specs.declared.given.Given.the-variants.{
   Done,
@@ -22,9 +22,8 @@ use Rattle.table.specs.declared.given.Given.the-variants.{
   Misshapen,
   SheetTooLong,
 }
-use Rattle.table.specs.Given.{Line, line, numberGiven, firstOf}
-use Rattle.rules.proofs.Tests.{and-left, and-right}
-use Rattle.refusals.specs.Cases.{ifDone, ifShortList}
+use Rattle.table.specs.Given.{Line, line, numberGiven, firstOf, ifDone}
+use Rattle.refusals.specs.Cases.{ifShortList}
 
 -- ---- by its cases
 
@@ -50,9 +49,6 @@ by-given Misshapen d f p = p (record { done = λ a b. refl; few = λ a b. refl }
 by-given SheetTooLong d f p = p (record { done = λ a b. refl; few = λ a b. refl })
 
 module _ (g : Given) where
-  pub if-refused : {A : Type 0} → (g ≡ Done → ⊥) → (a b : A) → ifDone g a b ≡ b
-  if-refused n a b = by-given g (λ e. absurd (n e)) (λ e. ap (λ x. ifDone x a b) e) (λ p. p .done a b)
-
   pub if-not-few : {A : Type 0} → (g ≡ ShortList → ⊥) → (a b : A) → ifShortList g a b ≡ b
   if-not-few n a b = by-given g (λ e. ap (λ x. ifShortList x a b) e) (λ e. absurd (n e)) (λ p. p .few a b)
 

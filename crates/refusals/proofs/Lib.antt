@@ -1,5 +1,4 @@
 pub mod Given
-pub mod CallTests
 pub mod CardOrder
 pub mod CallNumbers
 pub mod CallOrder

@@ -16,11 +16,12 @@ use Rattle.table.specs.declared.given.Given.{Given}
 use Rattle.table.specs.declared.given.Given.the-variants.{Done, WrongLength, OffGrid, NoSuchK, FewCandidates, ShortList}
 use Rattle.figures.specs.Figures.{LENGTH}
 use Rattle.table.specs.Words.{Words, pointsOf}
+use Rattle.limits.specs.Limits.{offGrid, noSuchK}
 use Rattle.rules.specs.Rules.{wellFormed}
 use Rattle.table.specs.Given.{Line, line, numberGiven, firstOf}
 use Rattle.audit.specs.Check.{wrongLength, malformed, checkGives, badAt}
 use Rattle.filter.specs.Query.{answersFound}
-use Rattle.refusals.specs.Refusals.{offGrid, noSuchK, queryGives}
+use Rattle.refusals.specs.Refusals.{queryGives}
 use Rattle.refusals.proofs.Given.{passed-before}
 use Rattle.refusals.proofs.CallOrder.{by-two}
 

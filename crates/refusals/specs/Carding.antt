@@ -7,8 +7,8 @@ use lib.IntN.{ℤ}
 use Rattle.table.specs.declared.given.Given.{Given}
 use Rattle.table.specs.declared.given.Given.the-variants.{Done, NoSuchNumber, NoSuchK, ShortList}
 use Rattle.table.specs.Given.{line, firstOf}
+use Rattle.limits.specs.Limits.{noSuchNumber, noSuchK}
 use Rattle.refusals.specs.declared.carding.Carded.{Carded}
-use Rattle.refusals.specs.Refusals.{noSuchNumber, noSuchK}
 
 -- 3, 5
 abbrev pub cardAsked : ℤ → ℤ → Given

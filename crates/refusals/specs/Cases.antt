@@ -1,5 +1,6 @@
--- What depends on the answer of a call: on whether it is granted, and on whether it is refusal 10.
+-- What depends on the answer of a call: on whether it is refusal 10, and whether it is a refusal at all.
 use mathlib.Core.Bool.{Bool, true, false}
+use Rattle.table.specs.Given.{ifDone}
 use Rattle.table.specs.declared.given.Given.{Given}
 use Rattle.table.specs.declared.given.Given.the-variants.{
   Done,
@@ -16,22 +17,6 @@ use Rattle.table.specs.declared.given.Given.the-variants.{
   Misshapen,
   SheetTooLong,
 }
-
--- one thing if the call is granted, another if it is refused
-abbrev pub ifDone : {A : Type 0} → Given → A → A → A
-ifDone Done a b = a
-ifDone WrongLength a b = b
-ifDone (NotWellFormed rule slot) a b = b
-ifDone NoSuchNumber a b = b
-ifDone OffGrid a b = b
-ifDone NoSuchK a b = b
-ifDone AlreadyEnrolled a b = b
-ifDone Full a b = b
-ifDone NotEnrolled a b = b
-ifDone FewCandidates a b = b
-ifDone ShortList a b = b
-ifDone Misshapen a b = b
-ifDone SheetTooLong a b = b
 
 -- one thing if the query is refused with 10, another otherwise
 abbrev pub ifShortList : {A : Type 0} → Given → A → A → A

@@ -1,17 +1,18 @@
--- 01, "Numbers given back", and 02: when each line holds, and the order in which each call checks them. Lines 1 and 2, of the table itself, and the check's order stand with the check.
+-- 01, "Numbers given back", and 02: when each line holds, and the order in which each call checks them. Lines 1 and 2, of the table itself, and the check's order stand with the check; lines 3, 4 and 5, of what is asked alone, in limits.
 use Prim.Native.Nat.{ℕ}
-use mathlib.Core.Bool.{Bool, not, _&&_}
+use mathlib.Core.Bool.{Bool, not}
 use mathlib.Core.List.{List, [], _∷_, map}
 use lib.Dec.{leb, ltb}
 use lib.IntN.{ℤ}
 use lib.ListN.{length}
-use Rattle.words.specs.Word.{natOf, onGrid}
+use Rattle.words.specs.Word.{natOf}
 use Rattle.grid.specs.Site.{Site}
 use Rattle.order.specs.Lists.{has}
-use Rattle.figures.specs.Figures.{MOST, HIGHEST}
-use Rattle.table.specs.Words.{Words, pointsOf, between}
+use Rattle.figures.specs.Figures.{MOST}
+use Rattle.table.specs.Words.{Words, pointsOf}
 use Rattle.table.specs.Stations.{stations}
 use Rattle.table.specs.Given.{Line, line, firstOf}
+use Rattle.limits.specs.Limits.{noSuchNumber, offGrid, noSuchK}
 use Rattle.audit.specs.Check.{wrongLength, malformed, badAt}
 use Rattle.filter.specs.Query.{answersFound}
 use Rattle.card.specs.Card.{namesFor}
@@ -29,21 +30,6 @@ use Rattle.table.specs.declared.given.Given.the-variants.{
 }
 
 -- ---- the lines
-
-abbrev pub site : ℤ → ℤ → Site
-site a b = record { x = a; y = b }
-
--- 3: point number outside 1 to 9,999
-abbrev pub noSuchNumber : ℤ → Bool
-noSuchNumber n = not (between 1 HIGHEST (natOf n))
-
--- 4: a coordinate off the grid
-abbrev pub offGrid : Site → Bool
-offGrid q = not (onGrid (q .x) && onGrid (q .y))
-
--- 5: k missing or outside 1 to 16
-abbrev pub noSuchK : ℤ → Bool
-noSuchK k = not (between 1 16 (natOf k))
 
 -- the numbers that are enrolled
 abbrev pub numbersOf : Words → List ℕ

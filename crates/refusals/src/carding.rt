@@ -1,7 +1,6 @@
 // When a card is refused by what it asks for, and what is handed back of it.
 ghost use mathlib.Core.Path.{_≡_};
 ghost use Rattle.refusals.specs.Carding.{cardAsked, cardTold};
-use crate::refuse;
 use table::given::Given;
 
 // What a card hands back: how many names it has.
@@ -14,10 +13,10 @@ pub struct Carded {
 pub fn card_asked(number: i32, k: i32) -> Given
     ensures { λ r. ⌜ r ≡ cardAsked number k ⌝ }
 {
-    if refuse::no_such_number(number) {
+    if limits::no_such_number(number) {
         return Given::NoSuchNumber;
     }
-    if refuse::no_such_k(k) {
+    if limits::no_such_k(k) {
         return Given::NoSuchK;
     }
     Given::Done

@@ -1,7 +1,8 @@
 // When an enrolment on a table that passes the check is refused: 3, 4, 6, 7.
 ghost use mathlib.Core.Path.{_≡_};
+ghost use Rattle.grid.specs.Site.{site};
 ghost use Rattle.rules.specs.Rules.{Passes};
-ghost use Rattle.refusals.specs.Refusals.{site, enrolGives};
+ghost use Rattle.refusals.specs.Refusals.{enrolGives};
 use crate::refuse;
 use table::given::Given;
 
@@ -10,10 +11,10 @@ pub fn enrol_given(table: &[i32], number: i32, x: i32, y: i32) -> Given
     requires { ⌜ Passes (now table) ⌝ }
     ensures { λ r. ⌜ r ≡ enrolGives (now (table .entry)) number (site x y) ⌝ }
 {
-    if refuse::no_such_number(number) {
+    if limits::no_such_number(number) {
         return Given::NoSuchNumber;
     }
-    if refuse::off_grid(x, y) {
+    if limits::off_grid(x, y) {
         return Given::OffGrid;
     }
     if refuse::is_enrolled(table, number) {

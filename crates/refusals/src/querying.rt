@@ -2,10 +2,10 @@
 ghost use mathlib.Core.Path.{_≡_};
 ghost use lib.ListN.{length};
 ghost use Rattle.words.specs.Word.{natOf};
+ghost use Rattle.grid.specs.Site.{site};
 ghost use Rattle.rules.specs.Rules.{Passes};
 ghost use Rattle.filter.specs.Query.{answersFound};
-ghost use Rattle.refusals.specs.Refusals.{site, queryGives};
-use crate::refuse;
+ghost use Rattle.refusals.specs.Refusals.{queryGives};
 use table::given::Given;
 use table::slot;
 
@@ -17,10 +17,10 @@ pub fn query_given(table: &[i32], x: i32, y: i32, k: i32, room: usize) -> Given
         r ≡ queryGives (now (table .entry)) (site x y) k room (length (answersFound (now (table .entry)) (site x y) (natOf k)))
         ⌝ }
 {
-    if refuse::off_grid(x, y) {
+    if limits::off_grid(x, y) {
         return Given::OffGrid;
     }
-    if refuse::no_such_k(k) {
+    if limits::no_such_k(k) {
         return Given::NoSuchK;
     }
     if room < slot::points_of(table) {

@@ -10,7 +10,7 @@ pub fn withdraw_given(table: &[i32], number: i32) -> Given
     requires { ⌜ Passes (now table) ⌝ }
     ensures { λ r. ⌜ r ≡ withdrawGives (now (table .entry)) number ⌝ }
 {
-    if refuse::no_such_number(number) {
+    if limits::no_such_number(number) {
         return Given::NoSuchNumber;
     }
     if !refuse::is_enrolled(table, number) {

@@ -20,8 +20,8 @@ use Rattle.table.specs.Page.{Page, filled, pageWords, freeWords, coverOf}
 use Rattle.table.specs.Slots.{slots, isFree, levelAt, entriesAt}
 use Rattle.table.specs.Stations.{stations, isPoint}
 use Rattle.rules.specs.Rules.{isNatural, rule1, isEmpty, rule2, leastFill, rule3, leafEntries, numbersAt, eachNew, rule4, isChild, entriesAbove, rule5, sameSpan, sameRect, rule6, isRoot, timesReferred, rule7, rule7Header}
-use Rattle.rules.proofs.Tests.{and-left, and-right, both-true, between-true, true-between, or-other, or-second, every-all, all-every}
-use Rattle.order.proofs.Lists.{all-then}
+use Rattle.rules.proofs.Tests.{both-true, between-true, true-between, or-other, or-second, every-all, all-every}
+use Rattle.order.proofs.Lists.{all-then, and-left, and-right}
 use Rattle.rules.proofs.PartWords.{free-zeros, page-zeros}
 use Rattle.rules.proofs.Enrolled.{stations-length}
 use Rattle.rules.proofs.Ruled.{Child}

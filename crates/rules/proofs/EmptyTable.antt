@@ -14,7 +14,7 @@ use Rattle.words.specs.Word.{IsWord, natOf}
 use Rattle.words.proofs.Words.{natural-word}
 use Rattle.order.specs.Lists.{every, join, All}
 use Rattle.order.specs.Order.{upFrom}
-use Rattle.order.proofs.Lists.{all-at}
+use Rattle.order.proofs.Lists.{all-at, and-left, and-right}
 use Rattle.order.proofs.Order.{up-all}
 use Rattle.figures.specs.Figures.{SLOTS, WIDTH, LENGTH}
 use Rattle.table.specs.Words.{Words, word, isMinusOne, pointsOf, startOf, partAt}
@@ -24,7 +24,7 @@ use Rattle.table.specs.Stations.{stations, isPoint}
 use Rattle.table.specs.Empty.{freeSlots, emptyTable}
 use Rattle.rules.specs.Rules.{isEmpty, leafEntries, numbersAt, eachNew, entriesAbove}
 use Rattle.table.proofs.Slots.{free-length, free-part-free}
-use Rattle.rules.proofs.Tests.{and-left, and-right, both-true}
+use Rattle.rules.proofs.Tests.{both-true}
 use Rattle.rules.proofs.Joined.{join-same, all-join}
 use Rattle.rules.proofs.Counted.{up-mem, every-below, below-every}
 use Rattle.rules.proofs.OneSlot.{minus-one, free-leaf, free-above}

@@ -13,7 +13,7 @@ use Rattle.words.specs.Word.{IsWord, stepsOf, wordOf, natOf}
 use Rattle.words.proofs.Words.{word-steps, word-is, natural-word}
 use Rattle.order.specs.Lists.{every, All}
 use Rattle.order.specs.Order.{upFrom}
-use Rattle.order.proofs.Lists.{all-at, all-append, all-replicate}
+use Rattle.order.proofs.Lists.{all-at, all-append, all-replicate, and-left, and-right}
 use Rattle.order.proofs.Order.{up-length}
 use Rattle.table.specs.declared.node.Entry.{Entry}
 use Rattle.figures.specs.Figures.{FAN, ENTRY, WIDTH}
@@ -21,7 +21,6 @@ use Rattle.table.specs.Words.{Words, word, isZero}
 use Rattle.table.specs.Page.{Page, entryOf, filled, pageOf, entryWords, entriesWords, pageWords, freeWords, EntryFits, PageFits}
 use Rattle.rules.specs.Rules.{isNatural, usedWords}
 use Rattle.table.proofs.Slots.{entries-length}
-use Rattle.rules.proofs.Tests.{and-left, and-right}
 
 -- ---- zeros
 

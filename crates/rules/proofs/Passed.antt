@@ -2,12 +2,13 @@
 use Prim.Native.Nat.{ℕ, _<_}
 use mathlib.Core.Path.{_≡_}
 use mathlib.Core.Bool.{true, _&&_}
+use Rattle.order.proofs.Lists.{and-left, and-right}
 use Rattle.order.specs.Lists.{every}
 use Rattle.figures.specs.Figures.{SLOTS}
 use Rattle.table.specs.Words.{Words}
 use Rattle.table.specs.Slots.{slots}
 use Rattle.rules.specs.Rules.{rule1, rule2, rule3, rule4, rule5, rule6, rule7, rule7Header, wellFormed}
-use Rattle.rules.proofs.Tests.{and-left, and-right, both-true}
+use Rattle.rules.proofs.Tests.{both-true}
 use Rattle.rules.proofs.Counted.{every-below, below-every}
 
 pub record Passed (ws : Words) : Type 0 where

@@ -16,7 +16,7 @@ use Rattle.grid.specs.Place.{Upright, rectGrown, spotOf}
 use Rattle.axis.proofs.Axis.{span-ext}
 use Rattle.grid.proofs.Rects.{rect-ext, grown-grid}
 use Rattle.order.specs.Lists.{Mem, All, NoDup}
-use Rattle.order.proofs.Lists.{map-at, all-mem, mem-all, all-then, all-both, all-map}
+use Rattle.order.proofs.Lists.{map-at, all-mem, mem-all, all-then, all-both, all-map, and-left, and-right}
 use Rattle.table.specs.declared.node.Entry.{Entry}
 use Rattle.figures.specs.Figures.{FAN, LEAST, SLOTS, HIGHEST}
 use Rattle.table.specs.Words.{Words, rootOf, pointsOf, partAt, between}
@@ -26,7 +26,7 @@ use Rattle.table.specs.Stations.{spanIsSpot, isPoint}
 use Rattle.table.specs.Tree.{Tree, bough, topOf, entryOfTree, entriesOfTree, slotsOf, leavesOf, Filled, leastOf, Stored, Sound, Holds}
 use Rattle.table.proofs.Cover.{cover-closed}
 use Rattle.table.proofs.Slots.{page-back, page-part-used}
-use Rattle.rules.proofs.Tests.{and-left, and-right, between-true}
+use Rattle.rules.proofs.Tests.{between-true}
 use Rattle.rules.proofs.Joined.{mem-join, all-parts, nodup-parts}
 use Rattle.rules.proofs.Size.{sound-bounds}
 

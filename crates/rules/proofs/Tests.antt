@@ -5,6 +5,7 @@ use mathlib.Core.Bool.{Bool, true, false, _&&_, _||_, false≢true}
 use mathlib.Core.List.{List, [], _∷_}
 use lib.Dec.{leb}
 use borrow.Author.Tests.{leb-true, le-leb}
+use Rattle.order.proofs.Lists.{and-left, and-right}
 use Rattle.order.specs.Lists.{every, All}
 use Rattle.table.specs.Words.{between}
 
@@ -12,14 +13,6 @@ use Rattle.table.specs.Words.{between}
 pub by-test : (b : Bool) {P : Type 0} → (b ≡ true → P) → (b ≡ false → P) → P
 by-test true y n = y refl
 by-test false y n = n refl
-
-pub and-left : (a b : Bool) → (a && b) ≡ true → a ≡ true
-and-left true b e = refl
-and-left false b e = e
-
-pub and-right : (a b : Bool) → (a && b) ≡ true → b ≡ true
-and-right true b e = e
-and-right false b e = absurd (false≢true e)
 
 pub both-true : {a b : Bool} → a ≡ true → b ≡ true → (a && b) ≡ true
 both-true {a} {b} e f = rw (e, f)

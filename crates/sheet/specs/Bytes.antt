@@ -13,6 +13,10 @@ TAB = 9
 abbrev pub FEED : ℕ
 FEED = 10
 
+-- 01: no sheet has more bytes; 02 §5: nor has a station list
+abbrev pub LONGEST : ℕ
+LONGEST = 65536
+
 -- a byte in front of the first part
 abbrev pub inFront : ℕ → List Bytes → List Bytes
 inFront b [] = (b ∷ []) ∷ []

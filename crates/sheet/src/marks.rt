@@ -6,6 +6,9 @@ pub const TAB: u8 = 9;
 
 pub const FEED: u8 = 10;
 
+// The most bytes that a sheet has, or a station list.
+pub const LONGEST: usize = 65536;
+
 // The place of the first mark from a place on, or the end.
 pub(crate) fn stop_from(bytes: &[u8], at: usize, mark: u8) -> usize
     ensures { λ r. ⌜ r ≡ stopFrom mark (now (bytes .entry)) at ⌝ }

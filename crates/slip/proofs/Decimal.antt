@@ -4,7 +4,8 @@ use mathlib.Core.Path.{_≡_, refl, ap}
 use mathlib.Core.Bool.{Bool, cond}
 use mathlib.Core.List.{List, [], _∷_, _++_, map, append-assoc, map-append}
 use native.Mathlib.Omega.{arith}
-use native.Mathlib.Nat.{pow-succ'}
+use native.Mathlib.Nat.{pow-succ', pow-le-pow-right}
+use native.Mathlib.Decide.{decLt}
 use native.Mathlib.Numerals.{add-one}
 use lib.Dec.{ltb}
 use lib.ListN.{length, getD, take, set, length-append}
@@ -58,6 +59,18 @@ count-small n h = rw (decimal-small n h)
 
 pub count-more : (n : ℕ) → n < 10 ^ 20 → 10 ≤ n → length (decimal n) ≡ suc (length (decimal (n / 10)))
 count-more n h l = rw (decimal-more n h l, length-append) (omega arith)
+
+-- a number below a power of ten has no more digits than that
+pub decimal-few : (k n : ℕ) → k ≤ 19 → n < 10 ^ suc k → length (decimal n) ≤ suc k
+decimal-few zero n l h = omega (arith, count-small n h)
+decimal-few (suc k) n l h = go (decLt n 10) (λ s. decimal-few k (n / 10) (omega arith) (omega (arith, pow-succ' 10 (suc k))))
+  where
+    go : Dec (n < 10) → ((n < 10 → ⊥) → length (decimal (n / 10)) ≤ suc k) → length (decimal n) ≤ suc (suc k)
+    go (yes s) rest = omega (arith, count-small n s)
+    go (no s) rest =
+        let few : suc (suc k) ≤ 20 = omega arith in
+        let most : 10 ^ suc (suc k) ≤ 10 ^ 20 = pow-le-pow-right (omega arith) few in
+        omega (arith, count-more n (omega (arith, most)) (omega arith), rest s)
 
 -- ---- the digits in a known number of places
 

@@ -11,7 +11,7 @@ use Rattle.axis.specs.Axis.{apart, sq, gap}
 use Rattle.words.specs.Word.{stepsOf, wordOf}
 use Rattle.grid.specs.Place.{dist², areaOf, growthOf, longerAxis, leastSquare}
 use Rattle.grid.specs.AsNear.{asNear, asNearTo, cornersAsNear}
-use Rattle.grid.specs.Site.{Site, squareApart, distance²}
+use Rattle.grid.specs.Site.{Site, site, squareApart, distance²}
 use Rattle.order.specs.Lists.{filter}
 use Rattle.table.specs.declared.node.Entry.{Entry}
 use Rattle.table.specs.Words.{Words, rootOf, partAt, placed}
@@ -26,7 +26,6 @@ use Rattle.joining.specs.Enrol.{settled, enrolled}
 use Rattle.filter.specs.Meaning.{asNearOther, answersTo, rising, answer}
 use Rattle.filter.specs.Walk.{Found, nearestFirst, pointHidden, boxHidden}
 use Rattle.filter.specs.Query.{found, answersFound}
-use Rattle.refusals.specs.Refusals.{site}
 use Rattle.desk.specs.Calls.{pointEntry}
 use Rattle.stars.specs.Stars.{Stars, threeEnrolled, referred, enrolledUpTo, station, at}
 

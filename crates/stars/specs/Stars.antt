@@ -7,7 +7,7 @@ use lib.IntN.{ℤ, pos, negsuc}
 use Rattle.grid.specs.declared.place.Place.{Place}
 use Rattle.grid.specs.declared.rect.Rect.{Rect}
 use Rattle.words.specs.Word.{stepsOf}
-use Rattle.grid.specs.Site.{Site, placeOf}
+use Rattle.grid.specs.Site.{Site, site, placeOf}
 use Rattle.grid.specs.AsNear.{cornersAsNear}
 use Rattle.table.specs.Words.{Words, rootOf}
 use Rattle.table.specs.Slots.{entriesAt, entryFor}
@@ -17,7 +17,6 @@ use Rattle.filter.specs.Meaning.{answer}
 use Rattle.filter.specs.Walk.{boxHidden}
 use Rattle.filter.specs.Query.{found, answersFound}
 use Rattle.table.specs.Empty.{emptyTable}
-use Rattle.refusals.specs.Refusals.{site}
 use Rattle.desk.specs.Calls.{pointEntry}
 
 abbrev pub station : ℕ → ℤ → ℤ → Station

@@ -35,6 +35,22 @@ numberGiven ShortList = 10
 numberGiven Misshapen = 11
 numberGiven SheetTooLong = 12
 
+-- one thing if the call is granted, another if it is refused
+abbrev pub ifDone : {A : Type 0} → Given → A → A → A
+ifDone Done a b = a
+ifDone WrongLength a b = b
+ifDone (NotWellFormed rule slot) a b = b
+ifDone NoSuchNumber a b = b
+ifDone OffGrid a b = b
+ifDone NoSuchK a b = b
+ifDone AlreadyEnrolled a b = b
+ifDone Full a b = b
+ifDone NotEnrolled a b = b
+ifDone FewCandidates a b = b
+ifDone ShortList a b = b
+ifDone Misshapen a b = b
+ifDone SheetTooLong a b = b
+
 -- one thing of the rule and the slot if the table is not well formed, another with any other answer
 abbrev pub ifMalformed : {A : Type 0} → Given → (ℕ → ℤ → A) → A → A
 ifMalformed (NotWellFormed rule slot) f other = f rule slot

@@ -1,5 +1,5 @@
 -- `export::ullagreth_card` hands on what the card gives, by its number, how many names it has, and where the table is bad. Assumes nothing.
-use Rattle.refusals.proofs.CallTests.{two-back}
+use Rattle.limits.proofs.CallTests.{two-back}
 use Rattle.export.specs.Cards.{ToldCard}
 use Rattle.export.proofs.Telling.{telling-card}
 use borrow.Author.Needs.{needs}

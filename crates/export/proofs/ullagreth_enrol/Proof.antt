@@ -1,9 +1,10 @@
 -- `export::ullagreth_enrol` hands on what the enrolment gives, by its number, and where the table is bad. Assumes nothing.
 use mathlib.Core.Path.{ap, _∙_}
+use Rattle.grid.specs.Site.{site}
 use Rattle.table.specs.Given.{numberGiven}
-use Rattle.refusals.specs.Refusals.{site, enrolGives}
+use Rattle.refusals.specs.Refusals.{enrolGives}
 use Rattle.desk.specs.Calls.{afterEnrol}
-use Rattle.refusals.proofs.CallTests.{three-passed}
+use Rattle.limits.proofs.CallTests.{three-passed}
 use Rattle.export.proofs.Telling.{fault-by}
 use borrow.Author.Needs.{needs}
 use Rattle.export.proofs.ullagreth_enrol.Statement.{statement}

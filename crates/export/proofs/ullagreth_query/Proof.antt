@@ -35,12 +35,11 @@ use denote.Triple.Statement.{Contract, Triple}
 use denote.Triple.Table.{cited}
 use denote.Triple.Walked.{says, Stays, gave-slice, stay-none-slice, stay-none, walkOf, goes-gave-slice, goes-none-slice, goes-none, ends-at}
 use denote.Exit.{yes}
-use Rattle.grid.specs.Site.{Site}
+use Rattle.grid.specs.Site.{Site, site}
 use Rattle.table.specs.Given.{numberGiven}
 use Rattle.record.specs.declared.Candidate.{Candidate}
 use Rattle.record.proofs.Candidate as C′
 use Rattle.refusals.specs.declared.answered.Answered.{Answered}
-use Rattle.refusals.specs.Refusals.{site}
 use Rattle.walks.proofs.Ends.{Called, leaves-said, closes}
 use Rattle.walks.proofs.Frees.{frees-at}
 use Rattle.walks.proofs.Handed.{apart, stack, asked, beside, arg, both, last-two}

@@ -3,7 +3,7 @@ use mathlib.Core.Path.{ap, _∙_}
 use Rattle.table.specs.Given.{numberGiven}
 use Rattle.refusals.specs.Refusals.{withdrawGives}
 use Rattle.desk.specs.Calls.{afterWithdraw}
-use Rattle.refusals.proofs.CallTests.{one-passed}
+use Rattle.limits.proofs.CallTests.{one-passed}
 use Rattle.export.proofs.Telling.{fault-by}
 use borrow.Author.Needs.{needs}
 use Rattle.export.proofs.ullagreth_withdraw.Statement.{statement}

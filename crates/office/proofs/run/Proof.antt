@@ -1,14 +1,14 @@
 -- `office::run` is safe and ends: what was read is a part of the buffer. Assumes nothing.
-use Rattle.office.proofs.Told.{told}
+use Rattle.post.proofs.Told.{told}
 use borrow.Author.Needs.{needs}
 use Rattle.office.proofs.run.Statement.{statement}
 use Rattle.office.proofs.run.Tie as tie
 
-slice-aggregate-read-sheet : tie.Need-slice-aggregate-read-sheet
-slice-aggregate-read-sheet c = search needs
+slice-aggregate-read-all : tie.Need-slice-aggregate-read-all
+slice-aggregate-read-all c = search needs
 
-read-sheet-requires : tie.Need-read-sheet-requires
-read-sheet-requires c κs = search needs
+read-all-requires : tie.Need-read-all-requires
+read-all-requires c κs = search needs
 
 enum-known-n : tie.Need-enum-known-n
 enum-known-n c = search needs
@@ -26,10 +26,10 @@ returns : tie.Need-returns
 returns c = search needs
 
 array-share-prefix-buffer : tie.Need-array-share-prefix-buffer
-array-share-prefix-buffer c = told _ (c .before .n .given .1) (c .before .before .before .before .read-sheet .ensures) .0
+array-share-prefix-buffer c = told _ (c .before .n .given .1) (c .before .before .before .before .read-all .ensures) .0
 
 slice-aggregate-answer : tie.Need-slice-aggregate-answer
-slice-aggregate-answer c = told _ (c .before .before .n .given .1) (c .before .before .before .before .before .read-sheet .ensures) .1
+slice-aggregate-answer c = told _ (c .before .before .n .given .1) (c .before .before .before .before .before .read-all .ensures) .1
 
 answer-requires : tie.Need-answer-requires
 answer-requires c κs = search needs
@@ -50,8 +50,8 @@ pub run-spec : {M : Type 1} → statement M
 run-spec =
     tie.close
     (tie.spec
-    slice-aggregate-read-sheet
-    read-sheet-requires
+    slice-aggregate-read-all
+    read-all-requires
     enum-known-n
     enum-told
     slice-aggregate-write-all

@@ -2,9 +2,9 @@
 use mathlib.Core.List.{_∷_}
 use native.Mathlib.Omega.{arith}
 use lib.ListN.{take}
+use Rattle.limits.proofs.Refused.{not-done}
 use Rattle.desk.specs.Carding.{Cards}
-use Rattle.refusals.proofs.CallTests.{two-back}
-use Rattle.refusals.proofs.CallOrder.{not-done}
+use Rattle.limits.proofs.CallTests.{two-back}
 use Rattle.jobs.specs.declared.job.Job.the-variants.{Card}
 use Rattle.clerk.proofs.Jobs.{Lists, refused-ran, granted-ran, card-lists}
 use borrow.Author.Needs.{needs}

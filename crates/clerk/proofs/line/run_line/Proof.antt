@@ -2,11 +2,12 @@
 use mathlib.Core.Path.{_≡_, refl, sym, subst, _∙_}
 use mathlib.Core.List.{[]}
 use lib.ListN.{length}
+use Rattle.grid.specs.Site.{site}
 use Rattle.asking.specs.Slate.{slate}
-use Rattle.refusals.specs.Refusals.{site, enrolGives, withdrawGives}
+use Rattle.refusals.specs.Refusals.{enrolGives, withdrawGives}
 use Rattle.desk.specs.Calls.{afterEnrol, afterWithdraw}
 use Rattle.desk.specs.Alone.{slateLeft}
-use Rattle.refusals.proofs.CallTests.{one-passed, three-passed, two-back, three-back}
+use Rattle.limits.proofs.CallTests.{one-passed, three-passed, two-back, three-back}
 use Rattle.jobs.specs.declared.job.Job.the-variants.{Query, Card}
 use Rattle.jobs.specs.Job.{ENROL, WITHDRAW}
 use Rattle.slip.specs.Output.{outputLine, Laid}

@@ -2,11 +2,11 @@
 use mathlib.Core.List.{_∷_}
 use native.Mathlib.Omega.{arith}
 use lib.ListN.{take}
+use Rattle.limits.proofs.Refused.{not-done}
+use Rattle.grid.specs.Site.{site}
 use Rattle.asking.specs.Slate.{slate}
-use Rattle.refusals.specs.Refusals.{site}
 use Rattle.desk.specs.Alone.{AnswersAlone}
-use Rattle.refusals.proofs.CallTests.{three-back}
-use Rattle.refusals.proofs.CallOrder.{not-done}
+use Rattle.limits.proofs.CallTests.{three-back}
 use Rattle.jobs.specs.declared.job.Job.the-variants.{Query}
 use Rattle.clerk.proofs.Jobs.{Lists, refused-ran, granted-ran, query-lists}
 use borrow.Author.Needs.{needs}

@@ -3,15 +3,16 @@ use Prim.Native.Nat.{ℕ, _≤_}
 use native.Mathlib.Omega.{arith}
 use mathlib.Core.Path.{_≡_, sym, ap, subst, _∙_}
 use Rattle.words.proofs.Machine.{natural-passed}
+use Rattle.grid.specs.Site.{site}
 use Rattle.figures.specs.Figures.{MOST}
 use Rattle.rules.specs.Rules.{Passing}
 use Rattle.table.specs.declared.given.Given.the-variants.{Done}
 use Rattle.asking.specs.Slate.{Slate, slate, Wide}
 use Rattle.asking.specs.Asked.{Replied}
 use Rattle.refusals.specs.declared.answered.Answered.{Answered}
-use Rattle.refusals.specs.Refusals.{site, queryGives}
+use Rattle.refusals.specs.Refusals.{queryGives}
 use Rattle.refusals.specs.Told.{told}
-use Rattle.refusals.proofs.CallTests.{three-passed, two-back}
+use Rattle.limits.proofs.CallTests.{three-passed, two-back}
 use Rattle.refusals.proofs.QueryOrder.{answersTold}
 use Rattle.desk.specs.Alone.{AnswersAlone}
 use Rattle.filter.proofs.Turns.{room-less}

@@ -1,9 +1,10 @@
 -- `cards::card` meets its contract: what the check refuses is refused, and a table that passes is one for `card_passing`. Assumes nothing.
 use mathlib.Core.Path.{sym, subst}
 use lib.ListN.{length}
+use Rattle.limits.proofs.Refused.{not-done}
 use Rattle.refusals.specs.declared.carding.Carded.{Carded}
-use Rattle.refusals.proofs.CallTests.{two-back}
-use Rattle.refusals.proofs.CallOrder.{not-done, passes}
+use Rattle.limits.proofs.CallTests.{two-back}
+use Rattle.refusals.proofs.CallOrder.{passes}
 use Rattle.refusals.proofs.CardOrder.{check-not-short, card-first}
 use Rattle.desk.specs.Carding.{Cards}
 use Rattle.desk.proofs.CallCard.{card-refused-is}

@@ -3,6 +3,7 @@ use Prim.Native.Nat.{ℕ}
 use native.Mathlib.Omega.{arith}
 use mathlib.Core.Path.{_≡_, sym, ap, subst, _∙_}
 use lib.ListN.{length}
+use Rattle.limits.proofs.Refused.{not-done}
 use Rattle.words.proofs.Machine.{natural-passed}
 use Rattle.words.specs.Word.{natOf}
 use Rattle.order.specs.Lists.{has}
@@ -13,9 +14,8 @@ use Rattle.naming.proofs.Standing.{somewhere, nowhere}
 use Rattle.refusals.specs.declared.carding.Carded.{Carded}
 use Rattle.refusals.specs.Refusals.{numbersOf}
 use Rattle.refusals.specs.Carding.{cardAsked}
-use Rattle.refusals.proofs.CallTests.{two-passed}
+use Rattle.limits.proofs.CallTests.{two-passed}
 use Rattle.refusals.proofs.CallNumbers.{enrolled-not, enrolled-is}
-use Rattle.refusals.proofs.CallOrder.{not-done}
 use Rattle.refusals.proofs.CardOrder.{asked-done, asked-not-short, card-early, card-8, card-last}
 use Rattle.desk.specs.Carding.{Cards}
 use Rattle.desk.proofs.Granted.{within}

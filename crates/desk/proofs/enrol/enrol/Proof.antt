@@ -1,9 +1,11 @@
 -- `enrol::enrol` meets its contract: what the check refuses is refused, and a table that passes is one for `enrol_passing`. Assumes nothing.
-use Rattle.refusals.specs.Refusals.{site, enrolGives}
+use Rattle.limits.proofs.Refused.{not-done}
+use Rattle.grid.specs.Site.{site}
+use Rattle.refusals.specs.Refusals.{enrolGives}
 use Rattle.desk.specs.Calls.{afterEnrol}
-use Rattle.refusals.proofs.CallTests.{three-passed}
+use Rattle.limits.proofs.CallTests.{three-passed}
 use Rattle.desk.proofs.CallAfter.{enrol-refused}
-use Rattle.refusals.proofs.CallOrder.{not-done, passes, enrol-first}
+use Rattle.refusals.proofs.CallOrder.{passes, enrol-first}
 use borrow.Author.Needs.{needs}
 use Rattle.desk.proofs.enrol.enrol.Statement.{statement}
 use Rattle.desk.proofs.enrol.enrol.Tie as tie

@@ -1,14 +1,15 @@
 -- `enrol::enrol_passing` meets its contract: a refusal leaves the table, and a granted enrolment puts the point's entry in. Assumes nothing.
 use mathlib.Core.Path.{sym, ap, _∙_}
+use Rattle.limits.proofs.Refused.{not-done}
+use Rattle.grid.specs.Site.{site}
 use Rattle.table.specs.Stations.{isPoint}
 use Rattle.joining.specs.Enrol.{enrolled}
-use Rattle.refusals.specs.Refusals.{site, enrolGives}
+use Rattle.refusals.specs.Refusals.{enrolGives}
 use Rattle.desk.specs.Calls.{pointEntry}
 use Rattle.desk.proofs.Granted.{enrol-granted}
 use Rattle.desk.proofs.Kept.{point-entry}
-use Rattle.refusals.proofs.CallTests.{three-passed}
+use Rattle.limits.proofs.CallTests.{three-passed}
 use Rattle.desk.proofs.CallAfter.{enrol-refused, enrol-done}
-use Rattle.refusals.proofs.CallOrder.{not-done}
 use borrow.Author.Needs.{needs}
 use Rattle.desk.proofs.enrol.enrol_passing.Statement.{statement}
 use Rattle.desk.proofs.enrol.enrol_passing.Tie as tie

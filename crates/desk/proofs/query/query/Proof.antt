@@ -37,7 +37,7 @@ use denote.Triple.Statement.{Contract, Triple}
 use denote.Triple.Table.{cited}
 use denote.Triple.Walked.{says, walkOf, ends-at}
 use denote.Exit.{yes}
-use Rattle.grid.specs.Site.{Site}
+use Rattle.grid.specs.Site.{Site, site}
 use Rattle.table.proofs.given.Given as G
 use Rattle.table.proofs.given.Given.Laws as G′
 use Rattle.record.specs.declared.Candidate.{Candidate}
@@ -46,7 +46,6 @@ use Rattle.walks.proofs.Frees.{frees-at}
 use Rattle.walks.proofs.Handed.{apart, stack, asked, beside, arg, last-two}
 use Rattle.walks.proofs.WalkSteps.{env, lets-go}
 use Rattle.refusals.specs.declared.answered.Answered.{Answered}
-use Rattle.refusals.specs.Refusals.{site}
 use Rattle.refusals.specs.Cases.{refuses}
 use Rattle.desk.specs.Lent.{Answers}
 use Rattle.refusals.proofs.answered.Answered as T

@@ -37,7 +37,7 @@ use denote.Triple.Statement.{Contract, Triple}
 use denote.Triple.Table.{cited}
 use denote.Triple.Walked.{says, needs, walkOf, ends-at}
 use denote.Exit.{yes}
-use Rattle.grid.specs.Site.{Site}
+use Rattle.grid.specs.Site.{Site, site}
 use Rattle.table.specs.declared.given.Given.{Given}
 use Rattle.table.proofs.given.Given as G
 use Rattle.table.proofs.given.Given.Laws as G′
@@ -47,7 +47,7 @@ use Rattle.walks.proofs.Frees.{frees-at}
 use Rattle.walks.proofs.Handed.{apart, stack, asked, beside, arg, last-two}
 use Rattle.walks.proofs.WalkSteps.{env, lets-go}
 use Rattle.refusals.specs.declared.answered.Answered.{Answered}
-use Rattle.refusals.specs.Refusals.{site, queryGives}
+use Rattle.refusals.specs.Refusals.{queryGives}
 use Rattle.refusals.specs.Cases.{refuses}
 use Rattle.refusals.specs.Told.{told}
 use Rattle.desk.specs.Lent.{Answers}

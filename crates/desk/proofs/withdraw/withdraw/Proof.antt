@@ -1,9 +1,10 @@
 -- `withdraw::withdraw` meets its contract: what the check refuses is refused, and a table that passes is one for `withdraw_passing`. Assumes nothing.
+use Rattle.limits.proofs.Refused.{not-done}
 use Rattle.refusals.specs.Refusals.{withdrawGives}
 use Rattle.desk.specs.Calls.{afterWithdraw}
-use Rattle.refusals.proofs.CallTests.{one-passed}
+use Rattle.limits.proofs.CallTests.{one-passed}
 use Rattle.desk.proofs.CallAfter.{withdraw-refused}
-use Rattle.refusals.proofs.CallOrder.{not-done, passes, withdraw-first}
+use Rattle.refusals.proofs.CallOrder.{passes, withdraw-first}
 use borrow.Author.Needs.{needs}
 use Rattle.desk.proofs.withdraw.withdraw.Statement.{statement}
 use Rattle.desk.proofs.withdraw.withdraw.Tie as tie

@@ -1,13 +1,13 @@
 -- `withdraw::withdraw_passing` meets its contract: a refusal leaves the table, and a granted withdrawal takes the number out. Assumes nothing.
 use mathlib.Core.Path.{sym, ap, _∙_}
+use Rattle.limits.proofs.Refused.{not-done}
 use Rattle.words.proofs.Machine.{natural-passed}
 use Rattle.order.specs.Lists.{has}
 use Rattle.leaving.specs.Withdraw.{withdrawn}
 use Rattle.refusals.specs.Refusals.{numbersOf, withdrawGives}
 use Rattle.desk.proofs.Granted.{withdraw-granted}
-use Rattle.refusals.proofs.CallTests.{one-passed}
+use Rattle.limits.proofs.CallTests.{one-passed}
 use Rattle.desk.proofs.CallAfter.{withdraw-refused, withdraw-done}
-use Rattle.refusals.proofs.CallOrder.{not-done}
 use borrow.Author.Needs.{needs}
 use Rattle.desk.proofs.withdraw.withdraw_passing.Statement.{statement}
 use Rattle.desk.proofs.withdraw.withdraw_passing.Tie as tie

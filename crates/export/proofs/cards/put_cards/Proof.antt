@@ -7,7 +7,7 @@ use lib.ListN.{length, getD}
 use borrow.Rule.Slice.PartMut.{midOf}
 use mir.Syntax.{w32}
 use mir.Val.{toZ}
-use Rattle.refusals.proofs.CallTests.{back, one-passed}
+use Rattle.limits.proofs.CallTests.{back, one-passed}
 use Rattle.desk.specs.Calls.{Listed, afterCard}
 use Rattle.export.specs.Cards.{cardsOver}
 use Rattle.export.proofs.CardLaws.{Laid, laid-next, laid-short, laid-all}

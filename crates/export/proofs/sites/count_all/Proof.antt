@@ -7,10 +7,10 @@ use lib.IntN.{pos}
 use lib.ListN.{length, getD, length-set}
 use mir.Syntax.{w32}
 use mir.Val.{toZ}
+use Rattle.grid.specs.Site.{site}
 use Rattle.figures.specs.Figures.{MOST}
 use Rattle.filter.specs.Query.{laidOver}
-use Rattle.refusals.specs.Refusals.{site}
-use Rattle.refusals.proofs.CallTests.{back, one-passed, two-passed}
+use Rattle.limits.proofs.CallTests.{back, one-passed, two-passed}
 use Rattle.export.specs.Sites.{siteCount, countsAt, countsOver}
 use Rattle.export.proofs.SiteLaws.{counts-start, counts-step, counts-end}
 use borrow.Author.Needs.{needs}

@@ -1,10 +1,10 @@
 -- `export::sites::count_at` meets its contract: n where the query is granted, and 0 where it is refused. Assumes nothing.
 use native.Mathlib.Omega.{arith}
+use Rattle.limits.proofs.Refused.{not-done}
+use Rattle.grid.specs.Site.{site}
 use Rattle.asking.specs.Slate.{slate}
-use Rattle.refusals.specs.Refusals.{site}
 use Rattle.desk.specs.Alone.{AnswersAlone}
-use Rattle.refusals.proofs.CallTests.{three-back}
-use Rattle.refusals.proofs.CallOrder.{not-done}
+use Rattle.limits.proofs.CallTests.{three-back}
 use Rattle.export.proofs.SiteLaws.{count-refused, count-few, count-done}
 use borrow.Author.Needs.{needs}
 use Rattle.export.proofs.sites.count_at.Statement.{statement}

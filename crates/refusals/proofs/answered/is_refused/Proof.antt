@@ -1,9 +1,8 @@
 -- `answered::is_refused` meets its contract. Assumes nothing.
 use mathlib.Core.Path.{sym}
 use mathlib.Core.Bool.{true, false}
-use Rattle.refusals.proofs.Given.{if-refused}
-use Rattle.refusals.proofs.CallOrder.{not-done}
 use borrow.Author.Needs.{needs}
+use Rattle.limits.proofs.Refused.{not-done, if-refused}
 use Rattle.refusals.proofs.answered.is_refused.Statement.{statement}
 use Rattle.refusals.proofs.answered.is_refused.Tie as tie
 

@@ -1,7 +1,7 @@
 -- `carding::card_asked` meets its contract: the first line that holds is given. Assumes nothing.
 use mathlib.Core.Path.{sym, _∙_}
-use Rattle.refusals.specs.Refusals.{noSuchNumber, noSuchK}
-use Rattle.refusals.proofs.CallTests.{one-passed}
+use Rattle.limits.specs.Limits.{noSuchNumber, noSuchK}
+use Rattle.limits.proofs.CallTests.{one-passed}
 use borrow.Author.Needs.{needs}
 use Rattle.refusals.proofs.carding.card_asked.Statement.{statement}
 use Rattle.refusals.proofs.carding.card_asked.Tie as tie

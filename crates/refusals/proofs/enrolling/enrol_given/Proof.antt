@@ -1,8 +1,10 @@
 -- `enrolling::enrol_given` meets its contract: the first line that holds is given. Assumes nothing.
 use mathlib.Core.Path.{_≡_, sym, _∙_}
 use mathlib.Core.Bool.{false}
-use Rattle.refusals.specs.Refusals.{site, noSuchNumber, offGrid, isEnrolled}
-use Rattle.refusals.proofs.CallTests.{one-passed, two-passed}
+use Rattle.grid.specs.Site.{site}
+use Rattle.limits.specs.Limits.{noSuchNumber, offGrid}
+use Rattle.refusals.specs.Refusals.{isEnrolled}
+use Rattle.limits.proofs.CallTests.{one-passed, two-passed}
 use Rattle.refusals.proofs.CallOrder.{enrol-3, enrol-4, enrol-6, enrol-7, enrol-0}
 use borrow.Author.Needs.{needs}
 use Rattle.refusals.proofs.enrolling.enrol_given.Statement.{statement}

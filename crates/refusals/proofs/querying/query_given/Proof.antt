@@ -3,10 +3,11 @@ use native.Mathlib.Omega.{arith}
 use mathlib.Core.Path.{sym, ap, _∙_}
 use mathlib.Core.Bool.{cond}
 use borrow.Author.Tests.{lt-ltb, le-ltb}
+use Rattle.grid.specs.Site.{site}
 use Rattle.table.specs.declared.given.Given.the-variants.{Done, ShortList}
 use Rattle.table.specs.Words.{pointsOf}
-use Rattle.refusals.specs.Refusals.{site, offGrid, noSuchK}
-use Rattle.refusals.proofs.CallTests.{one-passed, two-passed}
+use Rattle.limits.specs.Limits.{offGrid, noSuchK}
+use Rattle.limits.proofs.CallTests.{one-passed, two-passed}
 use Rattle.refusals.proofs.QueryOrder.{answersTold, query-4, query-5, query-9, query-last}
 use borrow.Author.Needs.{needs}
 use Rattle.refusals.proofs.querying.query_given.Statement.{statement}

@@ -1,8 +1,9 @@
 -- `withdrawing::withdraw_given` meets its contract: the first line that holds is given. Assumes nothing.
 use mathlib.Core.Path.{sym, _∙_}
 use borrow.Author.Tests.{not-true, not-false}
-use Rattle.refusals.specs.Refusals.{noSuchNumber, isEnrolled}
-use Rattle.refusals.proofs.CallTests.{one-passed}
+use Rattle.limits.specs.Limits.{noSuchNumber}
+use Rattle.refusals.specs.Refusals.{isEnrolled}
+use Rattle.limits.proofs.CallTests.{one-passed}
 use Rattle.refusals.proofs.CallOrder.{withdraw-3, withdraw-8, withdraw-0}
 use borrow.Author.Needs.{needs}
 use Rattle.refusals.proofs.withdrawing.withdraw_given.Statement.{statement}

@@ -1,0 +1,3 @@
+pub mod ByTheGrammar
+pub mod States
+pub mod Unquoting

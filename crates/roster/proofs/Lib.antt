@@ -1,0 +1,6 @@
+pub mod Numerals
+pub mod Holders
+pub mod Copied
+pub mod Going
+pub mod Joined
+pub mod AllOnce
