@@ -266,6 +266,11 @@ module _ {A : Type 0} (Q : A → Type 0) where
   all_at (x ∷ xs) zero d lt h = h.0
   all_at (x ∷ xs) (suc i) d lt h = all_at xs i d (le_of_suc-le-suc lt) h.1
 
+  -- and what holds at every place holds of all
+  pub all_from_at : (xs : List A) (d : A) → ((i : ℕ) → i < length xs → Q (get_or xs i d)) → All Q xs
+  all_from_at [] d h = tt
+  all_from_at (x ∷ xs) d h = (h 0 (omega arith), all_from_at xs d (λ i l. h (suc i) (omega arith)))
+
   pub all_replicate : (n : ℕ) (a : A) → Q a → All Q (replicate n a)
   all_replicate zero a h = tt
   all_replicate (suc n) a h = (h, all_replicate n a h)

@@ -5,4 +5,8 @@ ghost use Rattle.order.specs.Lists.{All};
 // Each word fits 32 bits. There is nothing to do for it: a caller's proof learns it here.
 pub fn are_words(words: &[i32])
     ensures { All IsWord words.now }
-{}
+{
+    for word in words {
+        let _fits = *word;
+    }
+}
