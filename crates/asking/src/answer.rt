@@ -12,7 +12,7 @@ use vetting::answering::put_rising;
 use vetting::keep::keep_passing;
 
 // n answers, m candidates, o nodes opened.
-#[derive(Drop)]
+#[derive(Clone, Copy)]
 pub struct Reply {
     pub n: usize,
     pub m: usize,

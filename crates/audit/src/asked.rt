@@ -8,7 +8,7 @@ use figures::Table;
 use table::slot;
 
 // What is asked of a slot: a rule, by its number in document 01, or that it is free, which rule 2 asks of an empty table.
-#[derive(Drop)]
+#[derive(Clone, Copy)]
 pub enum Rule {
     Free,
     One,

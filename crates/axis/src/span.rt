@@ -2,7 +2,7 @@
 ghost use Rattle.std.specs.Prelude.{◌≡◌, ◌+◌, ◌-◌, ◌*◌, ◌<◌, min, max};
 ghost use Rattle.axis.specs.Axis.{OnGrid, SpanOnGrid, sq, span_grown, span_length, span_sum, gap};
 
-#[derive(Drop)]
+#[derive(Clone, Copy)]
 pub struct Span {
     pub low: u64,
     pub high: u64,

@@ -9,7 +9,7 @@ use sheet::reader::{line_here, next_here};
 use words::lent::are_words;
 
 // How far the sheet has been run: the place where the next line starts, its number, and how many bytes stand in the buffer.
-#[derive(Drop)]
+#[derive(Clone, Copy)]
 pub struct Run {
     pub at: usize,
     pub number: u64,

@@ -5,7 +5,7 @@ ghost use Rattle.csv_grammar.specs.Grammar.{is_field};
 ghost use Rattle.csv_grammar.specs.Reading.{Leads, OnMark, OnText, sound_from};
 
 // Where the reader stands.
-#[derive(Drop)]
+#[derive(Clone, Copy)]
 enum State {
     // Before the first byte.
     Start,

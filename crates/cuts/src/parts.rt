@@ -7,14 +7,14 @@ ghost use Rattle.cuts.specs.Places.{is_outside, crossed, stop_at, part_at, next_
 use sheet::marks::FEED;
 
 // What parts the bytes: records end at a CR LF, fields at a comma.
-#[derive(Drop)]
+#[derive(Clone, Copy)]
 pub enum Mark {
     LineEnd,
     Comma,
 }
 
 // On which side of the quote marks a byte stands: outside after an even number of them.
-#[derive(Drop)]
+#[derive(Clone, Copy)]
 enum Side {
     Outside,
     Inside,

@@ -5,7 +5,7 @@ ghost use Rattle.std.specs.Prelude.{◌≡◌};
 ghost use Rattle.figures.specs.Figures.{FAN, LEAST, MOST, SLOTS, ENTRY, WIDTH, LENGTH, HIGHEST};
 
 // A table is lent as a slice of words; this type holds no data, only the figures.
-#[derive(Drop)]
+#[derive(Clone, Copy)]
 pub struct Table {}
 
 impl Table {
@@ -34,7 +34,7 @@ impl Table {
 }
 
 // The figures as one value.
-#[derive(Drop)]
+#[derive(Clone, Copy)]
 pub struct Figures {
     pub fan: usize,
     pub least: usize,

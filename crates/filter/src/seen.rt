@@ -1,7 +1,7 @@
 // How far a walk has come.
 ghost use Rattle.std.specs.Prelude.{◌≡◌, ◌+◌, ◌<◌, ◌^◌};
 
-#[derive(Drop)]
+#[derive(Clone, Copy)]
 pub struct Seen {
     // How many candidates were found.
     pub candidates: usize,

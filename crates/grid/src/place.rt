@@ -6,7 +6,7 @@ ghost use Rattle.grid.specs.AsNear.{as_near};
 use crate::rect::Rect;
 use axis::span::{Span, square};
 
-#[derive(Drop)]
+#[derive(Clone, Copy)]
 pub struct Place {
     pub x: u64,
     pub y: u64,

@@ -8,7 +8,7 @@ use crate::number::{Read, read_number};
 use sheet::fields::{field, field_count};
 
 // What a line asks for, with its numbers as they stand: whether they are in range is decided later.
-#[derive(Drop)]
+#[derive(Clone, Copy)]
 pub enum Job {
     // Number, x, y.
     Enrol(i32, i32, i32),

@@ -4,7 +4,7 @@ ghost use Rattle.order.specs.Lists.{every};
 ghost use Rattle.jobs.specs.Number.{is_digit, is_plain, value_of, plain_number, negative_number, read_number};
 
 // What a field says.
-#[derive(Drop)]
+#[derive(Clone, Copy)]
 pub enum Read {
     Number(i32),
     NoNumber,

@@ -13,7 +13,7 @@ use table::node::{Entry, Node};
 use table::slot;
 
 // What an insertion hands up: nothing new, or the entry of a new node.
-#[derive(Drop)]
+#[derive(Clone, Copy)]
 pub enum Up {
     Same,
     New(Entry),

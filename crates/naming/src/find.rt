@@ -8,7 +8,7 @@ use figures::Table;
 use grid::place::Place;
 use table::slot::{count_at, entry_at, level_at};
 
-#[derive(Drop)]
+#[derive(Clone, Copy)]
 pub enum Whereabouts {
     At(Place),
     Nowhere,

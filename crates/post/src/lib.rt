@@ -4,7 +4,7 @@
 ghost use Rattle.post.specs.Reading.{Filled};
 
 // How reading ended.
-#[derive(Drop)]
+#[derive(Clone, Copy)]
 pub enum Reading {
     // So many bytes stand at the front of the buffer.
     Done(usize),

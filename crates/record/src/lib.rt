@@ -5,7 +5,7 @@ ghost use Rattle.record.specs.Blank.{none};
 
 // Laid out for C and Rust programs too, with no hole between the fields: a blank list is then filled as plain bytes.
 #[repr(C)]
-#[derive(Drop)]
+#[derive(Clone, Copy)]
 pub struct Candidate {
     pub number: u64,
     pub x: i32,

@@ -7,7 +7,7 @@ use asking::answer::Reply;
 use table::given::Given;
 
 // What a query hands back: n answers, m candidates, o nodes opened.
-#[derive(Drop)]
+#[derive(Clone, Copy)]
 pub struct Answered {
     pub given: Given,
     pub n: usize,

@@ -5,7 +5,7 @@ ghost use Rattle.refusals.specs.Carding.{card_asked, card_told};
 use table::given::Given;
 
 // What a card hands back: how many names it has.
-#[derive(Drop)]
+#[derive(Clone, Copy)]
 pub struct Carded {
     pub given: Given,
     pub names: usize,

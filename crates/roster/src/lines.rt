@@ -16,7 +16,7 @@ use slip::{put_byte, put_decimal, put_number};
 use table::given::{Given, number_given};
 
 // How many bytes stand in the two buffers.
-#[derive(Drop)]
+#[derive(Clone, Copy)]
 pub struct Filled {
     pub lines: usize,
     pub reports: usize,

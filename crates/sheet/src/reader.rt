@@ -6,7 +6,7 @@ ghost use Rattle.sheet.specs.Marks.{line_of, next_of};
 use crate::lines::{line_at, next_at};
 
 // at is where the next line starts; at the sheet's length there is none.
-#[derive(Drop)]
+#[derive(Clone, Copy)]
 pub struct Reader<'a> {
     pub sheet: &'a [u8],
     pub at: usize,

@@ -2,7 +2,7 @@
 ghost use Rattle.std.specs.Prelude.{◌≡◌};
 ghost use Rattle.table.specs.Given.{number_given, rule_given, slot_given};
 
-#[derive(Drop)]
+#[derive(Clone, Copy)]
 pub enum Given {
     Done,
     // The table is not as long as a table is.

@@ -5,7 +5,7 @@ ghost use Rattle.table.specs.Page.{page, held, shown, Shows, without as withoutO
 use axis::span::Span;
 use grid::rect::Rect;
 
-#[derive(Drop)]
+#[derive(Clone, Copy)]
 pub struct Entry {
     // A point number in a leaf, a child slot above.
     pub reference: usize,
@@ -13,7 +13,7 @@ pub struct Entry {
 }
 
 // A split looks at nine entries and a join at ten, so there is room for ten.
-#[derive(Drop)]
+#[derive(Clone, Copy)]
 pub struct Node {
     pub level: usize,
     pub count: usize,
