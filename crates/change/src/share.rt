@@ -4,7 +4,7 @@ ghost use Rattle.grid.specs.Place.{RectOnGrid, sum_on};
 ghost use Rattle.order.specs.Lists.{All};
 ghost use Rattle.order.specs.Order.{pick, key_in, Marks};
 ghost use Rattle.table.specs.Page.{page, held, Shows, blank_entry};
-ghost use Rattle.change.specs.Share.{lined as linedOf};
+ghost use Rattle.change.specs.Share.{lined as lined_of};
 
 use grid::rect::Axis;
 use order::in_order;
@@ -47,7 +47,7 @@ fn placed_by(n: Node, row: [usize; order::MOST]) -> Node
 // By low + high on the axis where the covering box is longer; ties keep their order.
 pub fn lined(n: Node) -> Node
     requires { (n.count ≤ 10) × All (λ e. RectOnGrid e.rect) (held n) }
-    ensures { Shows result (page n.level (linedOf (held n))) }
+    ensures { Shows result (page n.level (lined_of (held n))) }
 {
     let axis = n.cover().longer();
     let marks = marks_on(n, axis);

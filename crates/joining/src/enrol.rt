@@ -3,7 +3,7 @@ ghost use Rattle.std.specs.Prelude.{◌≡◌, [], ◌∷◌, ◌++◌, ◌<◌,
 ghost use Rattle.order.specs.Lists.{All};
 ghost use Rattle.figures.specs.Figures.{LENGTH};
 ghost use Rattle.table.specs.Page.{page, held, Shows, EntryFits};
-ghost use Rattle.joining.specs.Enrol.{split as splitOf, settled, inserted, rooted, first_enrolled, next_enrolled, enrolled};
+ghost use Rattle.joining.specs.Enrol.{split as split_of, settled, inserted, rooted, first_enrolled, next_enrolled, enrolled};
 ghost use Rattle.joining.specs.Within.{new_of, grew, MaySettle, MayInsert, MayRaise, MayGrow, MayEnrol};
 
 use change::choose::choose;
@@ -22,7 +22,7 @@ pub enum Up {
 // Of nine entries the first four stay; the other five go to the lowest free slot.
 fn split(table: &mut [i32], slot: usize, n: Node) -> Up
     requires { MaySettle table.old slot n }
-    ensures { grew table.new result ≡ splitOf table.old slot n.level (held n) }
+    ensures { grew table.new result ≡ split_of table.old slot n.level (held n) }
 {
     let to = slot::lowest_free(table);
     let half = n.count / 2;

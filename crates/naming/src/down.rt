@@ -7,7 +7,7 @@ ghost use Rattle.figures.specs.Figures.{SLOTS, LENGTH};
 ghost use Rattle.table.specs.Slots.{entries_at};
 ghost use Rattle.table.specs.Stations.{is_point};
 ghost use Rattle.filter.specs.Passable.{Passable};
-ghost use Rattle.vetting.specs.Test.{below as belowOf, Boxed};
+ghost use Rattle.vetting.specs.Test.{below as below_of, Boxed};
 ghost use Rattle.naming.specs.Holders.{marks_of};
 
 use crate::best::{is_beyond, mark_of, offer};
@@ -58,7 +58,7 @@ pub fn offer_below(
 )
     requires table_len { (length table.now ≡ LENGTH) × PlaceOnGrid p × Passable level table.now slot × Boxed level table.now slot }
     requires best_nonzero { (0 < length best.old) × Rises best.old }
-    ensures { best.new ≡ least (length best.old) (marks_of number p (belowOf level table.now slot) ++ best.old) }
+    ensures { best.new ≡ least (length best.old) (marks_of number p (below_of level table.now slot) ++ best.old) }
 {
     if level == 0 {
         offer_leaf(table, slot, number, p, best);

@@ -33,7 +33,7 @@ Owned n = Is the_row n (val the_type the_laws n ∷ [])
 
 -- an array's length is in its type
 pub full : (n : Node) → Owned n → length n.entries ≡ 10
-full n g = sym (length-map n.entries the_field.into) ∙ g.1.1.1.1.0.1.0.1
+full n g = g.1.1.1.1.0.1.0.1
 
 pub held_length : (n : Node) → length n.entries ≡ 10 → n.count ≤ 10 → length (held n) ≡ n.count
 held_length n f h = length-take-le n.count n.entries (omega arith)

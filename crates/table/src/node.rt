@@ -1,6 +1,6 @@
 // A node by value: it goes out of the table, is worked on, and goes back in.
 ghost use Rattle.std.specs.Prelude.{◌≡◌, ◌+◌, ◌-◌, ◌≤◌, ◌<◌, [], ◌∷◌, ◌++◌, length, take, drop, set, get_or};
-ghost use Rattle.table.specs.Page.{page, held, shown, Shows, without as withoutOf, cover_of, blank_entry};
+ghost use Rattle.table.specs.Page.{page, held, shown, Shows, without as without_of, cover_of, blank_entry};
 
 use axis::span::Span;
 use grid::rect::Rect;
@@ -70,7 +70,7 @@ impl Node {
     // Place i goes; later entries move up one.
     pub fn without(self, i: usize) -> Node
         requires { (i < self.count) × (self.count ≤ 10) }
-        ensures { Shows result (page self.level (withoutOf i (held self))) }
+        ensures { Shows result (page self.level (without_of i (held self))) }
     {
         let mut n = self;
         let last = n.count - 1;

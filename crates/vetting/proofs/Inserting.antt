@@ -7,10 +7,10 @@ use mathlib.Core.List.{List, [], ◌∷◌, ◌++◌}
 use lib.ListN.{length, take, drop, get_or, set, length-take, take-append-drop}
 use lib.Seq.{slice, slice-cons, length-slice, set_split, drop-append-le, take-suc-set, take-set-lt, drop-set-lt, append_snoc}
 use borrow.Author.Tests.{le-leb, lt-leb}
-use Rattle.order.specs.Order.{insert as insertOf}
+use Rattle.order.specs.Order.{insert as insert_of}
 
 abbrev put : ℕ → List ℕ → List ℕ
-put = insertOf (λ n. n)
+put = insert_of (λ n. n)
 
 -- the list once the number has gone in, at `at` or behind it
 abbrev pub gone : ℕ → ℕ → List ℕ → ℕ → List ℕ

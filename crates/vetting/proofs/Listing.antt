@@ -6,7 +6,7 @@ use mathlib.Core.Path.{◌≡◌, refl, sym, ap, ◌∙◌}
 use mathlib.Core.List.{List, [], ◌∷◌, ◌++◌, append_assoc}
 use lib.ListN.{length, take, drop, get_or, length-append, length-drop, take-append-drop}
 use lib.Seq.{slice, slice_empty, slice-cons, length-slice, length-take-le, take_at, drop_at}
-use Rattle.order.specs.Order.{insert as insertOf}
+use Rattle.order.specs.Order.{insert as insert_of}
 use Rattle.order.proofs.Perm.{perm_length}
 use Rattle.order.proofs.Order.{sort_length, insert_perm}
 use Rattle.filter.specs.Meaning.{rising}
@@ -24,7 +24,7 @@ module _ {A : Type 0} (a b d : List A) (p q : ℕ) (here : length a ≡ p) (ther
   behind : drop q (a ++ (b ++ d)) ≡ d
   behind = rw (← append_assoc a b d, drop_at (a ++ b) d q both)
 
-rising_cons : (x : ℕ) (xs : List ℕ) → rising (x ∷ xs) ≡ insertOf (λ n. n) x (rising xs)
+rising_cons : (x : ℕ) (xs : List ℕ) → rising (x ∷ xs) ≡ insert_of (λ n. n) x (rising xs)
 unfolding rising
 rising_cons x xs = refl
 
@@ -55,7 +55,7 @@ module _ (kept : List ℕ) (n : ℕ) (old : List ℕ) (all : n ≤ length kept) 
   fill_next ns i h f ns' whole =
       let number = get_or kept i 0 in
       let front = take i ns in
-      let part = insertOf (λ n. n) number (slice (i + 1) n ns) in
+      let part = insert_of (λ n. n) number (slice (i + 1) n ns) in
       let here : length front ≡ i = length-take-le i ns (omega (arith, f.long)) in
       let there : i + length part ≡ n =
       omega (arith, perm_length (insert_perm (λ n. n) number (slice (i + 1) n ns)), length-slice (i + 1) n ns (omega (arith, f.long))) in
@@ -64,7 +64,7 @@ module _ (kept : List ℕ) (n : ℕ) (old : List ℕ) (all : n ≤ length kept) 
         rises =
             ap (slice i n) whole
             ∙ middle front part (drop n ns) i n here there
-            ∙ ap (insertOf (λ n. n) number) f.rises
+            ∙ ap (insert_of (λ n. n) number) f.rises
             ∙ sym (ap rising next ∙ rising_cons number (slice (i + 1) n kept));
         rest = ap (drop n) whole ∙ behind front part (drop n ns) i n here there ∙ f.rest;
         long =

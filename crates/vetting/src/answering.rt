@@ -1,7 +1,7 @@
 // The answers of a query, written in rising order.
 ghost use Rattle.std.specs.Prelude.{◌≡◌, ◌+◌, ◌≤◌, ◌<◌, ◌++◌, length, take, drop};
 ghost use Rattle.std.proofs.Math.Seq.{slice};
-ghost use Rattle.order.specs.Order.{insert as insertOf};
+ghost use Rattle.order.specs.Order.{insert as insert_of};
 ghost use Rattle.filter.specs.Meaning.{rising};
 ghost use Rattle.filter.specs.Query.{laid_over};
 
@@ -9,7 +9,7 @@ ghost use Rattle.filter.specs.Query.{laid_over};
 fn insert(answers: &mut [u32], at: usize, end: usize, number: u32)
     requires { (at < end) × (end ≤ length answers.old) }
     ensures { answers.new ≡ take at answers.old
-        ++ (insertOf (λ n. n) number (slice (at + 1) end answers.old) ++ drop end answers.old) }
+        ++ (insert_of (λ n. n) number (slice (at + 1) end answers.old) ++ drop end answers.old) }
 {
     let mut here = at;
     while here + 1 < end {

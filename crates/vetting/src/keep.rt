@@ -4,7 +4,7 @@ ghost use Rattle.grid.specs.Place.{PlaceOnGrid};
 ghost use Rattle.rules.specs.Rules.{Passing};
 ghost use Rattle.filter.specs.Query.{laid_over};
 ghost use Rattle.filter.specs.Rows.{rows, listed};
-ghost use Rattle.vetting.specs.Test.{passes as passesOf};
+ghost use Rattle.vetting.specs.Test.{passes as passes_of};
 ghost use Rattle.vetting.specs.Tested.{numbers_passing, Keepable};
 
 use crate::test::passes;
@@ -24,9 +24,9 @@ fn noted(
     kept: &mut [u32],
     n: usize,
 ) -> usize
-    requires { Passing table.now × PlaceOnGrid p × (n < length kept.old) × (k < near → passesOf table.now number p far k ≡ false) }
-    ensures { (result ≡ cond (passesOf table.now number p far k) (n + 1) n)
-        × (kept.new ≡ cond (passesOf table.now number p far k) (set kept.old n number) kept.old) }
+    requires { Passing table.now × PlaceOnGrid p × (n < length kept.old) × (k < near → passes_of table.now number p far k ≡ false) }
+    ensures { (result ≡ cond (passes_of table.now number p far k) (n + 1) n)
+        × (kept.new ≡ cond (passes_of table.now number p far k) (set kept.old n number) kept.old) }
 {
     if k < near {
         return n;

@@ -7,7 +7,7 @@ ghost use Rattle.table.specs.Slots.{entries_at};
 ghost use Rattle.table.specs.Stations.{is_point};
 ghost use Rattle.rules.specs.Rules.{Passing};
 ghost use Rattle.filter.specs.Passable.{Passable};
-ghost use Rattle.vetting.specs.Test.{other_as_near, below as belowOf, Boxed, passes as passesOf};
+ghost use Rattle.vetting.specs.Test.{other_as_near, below as below_of, Boxed, passes as passes_of};
 
 use grid::place::{Place, is_as_near};
 use table::node::Entry;
@@ -65,7 +65,7 @@ fn others_below(
 ) -> usize
     requires table_len { (length table.now ≡ LENGTH) × PlaceOnGrid p }
     requires passable { Passable level table.now slot × Boxed level table.now slot }
-    ensures { result ≡ min most (count_of (other_as_near number p far) (belowOf level table.now slot)) }
+    ensures { result ≡ min most (count_of (other_as_near number p far) (below_of level table.now slot)) }
 {
     if level == 0 {
         return others_in(table, slot, number, p, far, most);
@@ -91,7 +91,7 @@ fn others_below(
 // Whether fewer than k others are as near or nearer. The empty table has no root to start from.
 pub fn passes(table: &[i32], number: usize, p: Place, far: u64, k: usize) -> bool
     requires { Passing table.now × PlaceOnGrid p }
-    ensures { result ≡ passesOf table.now number p far k }
+    ensures { result ≡ passes_of table.now number p far k }
 {
     if points_of(table) == 0 {
         return 0 < k;

@@ -1,0 +1,36 @@
+-- `part::node_of` meets its contract. The invariant: the first `i` entries have been read. Assumes nothing.
+use Prim.Native.Nat.{ℕ, ◌-◌, ◌≤◌}
+use mathlib.Core.Path.{◌≡◌, refl, sym, ap, ◌∙◌}
+use mathlib.Core.List.{map}
+use native.Mathlib.Omega.{arith}
+use borrow.Author.Rules.{rules}
+use lib.ListN.{length, take, length-set, length-map}
+use Rattle.order.specs.Order.{up_from}
+use Rattle.order.proofs.Order.{up_length}
+use Rattle.table.specs.Page.{entry_of, filled, page_of}
+use Rattle.table.proofs.Nodes.{full}
+use Rattle.table.proofs.Parts.{read_step}
+use Rattle.table.proofs.part.node_of.Goals as goal
+
+pub loop-i-preserved : goal.loop-i-preserved
+loop-i-preserved c =
+    let l = c.loop-i in
+    let ws = c.args.part.now in (
+      omega arith,
+      simp length-set (omega arith),
+      l.invariant.2,
+      rw c.entry_of-e.ensures (read_step (entry_of ws) l.n.entries l.i (omega arith) l.invariant.3),
+    )
+
+pub returns : goal.returns
+unfolding page_of
+returns c =
+    let l = c.loop-i in
+    let ws = c.args.part.now in
+    let k = c.filled_part-count.ensures in
+    let e : l.i ≡ c.filled_part-count.result = omega arith in
+    record {
+      level = l.invariant.2 ∙ c.empty-n.ensures.level ∙ c.natural_at.ensures;
+      count = k ∙ sym (length-map (up_from 0 (filled ws)) (entry_of ws) ∙ up_length 0 (filled ws));
+      entries = ap (λ (n : ℕ). take n l.n.entries) (sym e) ∙ l.invariant.3 ∙ ap (λ (n : ℕ). map (entry_of ws) (up_from 0 n)) (e ∙ k);
+    }

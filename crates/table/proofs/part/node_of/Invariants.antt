@@ -1,0 +1,20 @@
+-- `part::node_of` meets its contract. The invariant: the first `i` entries have been read. Assumes nothing.
+use Prim.Native.Nat.{ℕ, ◌-◌, ◌≤◌}
+use mathlib.Core.Path.{◌≡◌, refl, sym, ap, ◌∙◌}
+use mathlib.Core.List.{map}
+use native.Mathlib.Omega.{arith}
+use borrow.Author.Rules.{rules}
+use lib.ListN.{length, take, length-set, length-map}
+use Rattle.order.specs.Order.{up_from}
+use Rattle.order.proofs.Order.{up_length}
+use Rattle.table.specs.Page.{entry_of, filled, page_of}
+use Rattle.table.proofs.Nodes.{full}
+use Rattle.table.proofs.Parts.{read_step}
+use Rattle.table.proofs.part.node_of.Given as goal
+
+abbrev pub invariant-loop-i : goal.invariant-loop-i
+invariant-loop-i l =
+    (l.i ≤ l.count) × (length l.n.entries ≡ 10) × (l.n.level ≡ l.initial.n.level) × (take l.i l.n.entries ≡ map (entry_of l.part) (up_from 0 l.i))
+
+abbrev pub decreases-loop-i : goal.decreases-loop-i
+decreases-loop-i l = l.count - l.i
