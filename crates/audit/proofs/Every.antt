@@ -3,12 +3,12 @@
 use Prim.Native.Nat.{ℕ, suc, ◌+◌, ◌≤◌, ◌<◌}
 use native.Mathlib.Omega.{arith}
 use mathlib.Core.Path.{◌≡◌, sym, ◌∙◌}
-use mathlib.Core.Bool.{Bool, true, false, not, false≢true}
+use mathlib.Core.Bool.{Bool, true, false, false≢true}
 use mathlib.Core.List.{List, [], ◌∷◌}
 use lib.ListN.{length, get_or}
 use native.Mathlib.Decide.{dec_lt}
 use lib.Dec.{eqb}
-use borrow.Author.Tests.{not-true, not-false, eq-eqb, ne_eqb}
+use borrow.Author.Tests.{eq-eqb, ne_eqb}
 use borrow.Author.Count.{below_none, below_more}
 use Rattle.order.specs.Lists.{every, All}
 use Rattle.order.specs.Order.{up_from}
@@ -30,11 +30,11 @@ pub one_tested : (P : ℕ → Bool) (n i : ℕ) → Tested P n i → i < n → P
 one_tested P n i t h e = record { within = omega arith; each = below_more (λ k. P k ≡ true) i t.each e }
 
 -- what a call answers is a test: the branch `if !answer` says which way the test went
-pub failed : {r b : Bool} → r ≡ b → not r ≡ true → b ≡ false
-failed {r} e h = sym e ∙ not-true r h
+pub failed : {r b : Bool} → r ≡ b → r ≡ false → b ≡ false
+failed e h = sym e ∙ h
 
-pub passed : {r b : Bool} → r ≡ b → not r ≡ false → b ≡ true
-passed {r} e h = sym e ∙ not-false r h
+pub passed : {r b : Bool} → r ≡ b → r ≡ true → b ≡ true
+passed e h = sym e ∙ h
 
 never_true : {a : Bool} → (a ≡ true → ⊥) → a ≡ false
 never_true {a} n = by_test a (λ e. absurd (n e)) (λ e. e)

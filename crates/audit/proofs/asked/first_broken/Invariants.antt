@@ -1,0 +1,13 @@
+-- `asked::first_broken` meets its contract: each slot passes the rule, or the loop stops at the first that does not. Assumes nothing.
+use Prim.Native.Nat.{◌-◌}
+use native.Mathlib.Omega.{arith}
+use Rattle.figures.specs.Figures.{SLOTS}
+use Rattle.audit.specs.Asked.{rule_at}
+use Rattle.audit.proofs.Every.{Tested, none_tested, one_tested, failed, passed, found_lowest, none_lowest}
+use Rattle.audit.proofs.asked.first_broken.Given as goal
+
+abbrev pub invariant-loop-slot : goal.invariant-loop-slot
+invariant-loop-slot l = Tested (rule_at l.rule l.table) SLOTS l.slot
+
+abbrev pub decreases-loop-slot : goal.decreases-loop-slot
+decreases-loop-slot l = SLOTS - l.slot

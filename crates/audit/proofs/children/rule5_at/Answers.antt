@@ -1,0 +1,32 @@
+-- `children::rule5_at` meets its contract: each entry passes rule 5, or the loop stops at one that does not. Assumes nothing.
+use Prim.Native.Nat.{◌-◌}
+use mathlib.Core.Path.{sym}
+use native.Mathlib.Omega.{arith}
+use Rattle.table.specs.Page.{blank_entry}
+use Rattle.rules.specs.Rules.{is_child, rule5}
+use Rattle.table.proofs.Slots.{page_few}
+use Rattle.audit.proofs.Every.{Tested, test_at, none_tested, one_tested, failed, passed}
+use Rattle.audit.proofs.Entries.{entry_fails, entries_pass}
+use Rattle.audit.proofs.children.rule5_at.Goals as goal
+
+pub returns-then-not-is_above : goal.returns-then-not-is_above
+unfolding rule5
+returns-then-not-is_above c = rw (failed c.is_above.ensures c.if-not-is_above.true)
+
+pub returns-then-not-is_child : goal.returns-then-not-is_child
+unfolding rule5
+returns-then-not-is_child c =
+    let a = c.args in
+    let ws = a.table.now in
+    let s = a.slot in
+    rw (passed c.is_above.ensures c.if-not-is_above.false)
+    (sym (entry_fails (is_child ws s) c.node_at-n.ensures c.loop-i.i (omega arith) (failed c.is_child.ensures c.if-not-is_child.true)))
+
+pub returns : goal.returns
+unfolding rule5
+returns c =
+    let a = c.args in
+    let ws = a.table.now in
+    let s = a.slot in
+    rw (passed c.is_above.ensures c.if-not-is_above.false)
+    (sym (entries_pass (is_child ws s) c.node_at-n.ensures c.loop-i.i c.loop-i.invariant (omega arith)))

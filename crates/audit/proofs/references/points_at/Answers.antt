@@ -1,0 +1,14 @@
+-- `references::points_at` meets its contract: a leaf has as many points as entries. Assumes nothing.
+use mathlib.Core.Path.{sym, ◌∙◌}
+use borrow.Author.Tests.{eq-eqb, ne_eqb}
+use Rattle.table.specs.Slots.{level_at}
+use Rattle.audit.proofs.Gathered.{points_length}
+use borrow.Author.Rules.{rules}
+use Rattle.audit.proofs.references.points_at.Goals as goal
+
+pub returns : goal.returns
+returns c =
+    let a = c.args in
+    let ws = a.table.now in
+    let e = eq-eqb (level_at ws a.slot) 0 (sym c.level_at.ensures ∙ c.if-level_at-ne0.false) in
+    c.node_at-n.ensures.count ∙ sym (points_length ws a.slot e)
