@@ -1,6 +1,8 @@
 // The limits of what may be asked: 3, 4 and 5 of the table of refusals, which speak of numbers alone and of no table.
 // It promises that each line says yes exactly where its definition in specs/ does.
 // It stands on words (a word as a natural, as a coordinate), grid (a place) and figures (the highest number); its definitions on table (a range).
+#![tactic(auto)]
+
 ghost use Rattle.std.specs.Prelude.{◌≡◌};
 ghost use Rattle.grid.specs.Site.{site};
 ghost use Rattle.limits.specs.Limits.{no_such_number, off_grid, no_such_k};

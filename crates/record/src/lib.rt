@@ -1,5 +1,7 @@
 // The candidate list as a lent row of records: a record is put in its place, and read back.
-// It promises the one record, and that the others stay. It stands on nothing; its proofs stand on walks.
+// It promises the one record, and that the others stay. It stands on nothing.
+#![tactic(auto)]
+
 ghost use Rattle.std.specs.Prelude.{◌≡◌, ◌<◌, length, set, get_or};
 ghost use Rattle.record.specs.Blank.{none};
 

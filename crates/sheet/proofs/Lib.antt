@@ -1,2 +1,1 @@
 pub mod Parted
-pub mod Reading

@@ -1,6 +1,8 @@
 // The slip: the bytes of an output line, laid into a lent buffer from a place on. Each function gives back the place behind its bytes.
 // It promises, by the definitions in specs/, every byte of an output line, and that every other byte of the buffer stays.
 // It stands on sheet (the marks), jobs (the letters) and order (lists).
+#![tactic(auto)]
+
 ghost use Rattle.std.specs.Prelude.{◌≡◌, [], ◌∷◌, ◌++◌, map, ◌+◌, ◌*◌, ◌≤◌, ◌<◌, length, take};
 ghost use Rattle.slip.specs.Output.{decimal, tabbed, head_of, output_line, Laid};
 ghost use Rattle.jobs.specs.Job.{QUERY, CARD};
