@@ -171,7 +171,7 @@ module _ (q : Place) (k : ℕ) (ws : Words) where
       let f : Step q k (join (λ e. e ∷ []) sorted) (join (λ e. []) sorted) now (each (visited q k) (map (λ e. e) sorted) now) =
       steps q k (λ e. e ∷ []) (λ e. []) (λ e. e) (visited q k) sorted
       (all_mem (λ e. (n : Found) → Step q k (e ∷ []) [] n (visited q k e n)) sorted (λ e m n. step_visit q k e n)) now in
-      step_order q k _ es _ [] now _ (rw (join_one sorted) (sort_perm key es)) (ap length (join_none sorted)) (rw (map_same sorted) at f)
+      step_order q k _ es _ [] now _ (sort_perm key es) (ap length (join_none sorted)) (rw (map_same sorted) at f)
 
   -- what opening a tree does
   abbrev pub Opens : (l : ℕ) → Tree l → Type 0

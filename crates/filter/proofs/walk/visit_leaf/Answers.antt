@@ -75,10 +75,10 @@ loop-i-preserved c =
     (
       omega (arith, c.loop-i-test.true),
       (turn_here).done _ _ c.visit-so_far.ensures,
-      c.visit-so_far.auto.1.1.1.0 ∙ c.loop-i.invariant.2,
-      c.visit-so_far.auto.1.1.1.1.0 ∙ c.loop-i.invariant.3,
-      c.visit-so_far.auto.1.1.1.1.1.0 ∙ c.loop-i.invariant.4,
-      c.visit-so_far.auto.1.1.1.1.1.1.0 ∙ c.loop-i.invariant.5,
+      c.visit-so_far.auto.numbers ∙ c.loop-i.invariant.2,
+      c.visit-so_far.auto.xs ∙ c.loop-i.invariant.3,
+      c.visit-so_far.auto.ys ∙ c.loop-i.invariant.4,
+      c.visit-so_far.auto.bars ∙ c.loop-i.invariant.5,
     )
 
 pub returns : goal.returns
