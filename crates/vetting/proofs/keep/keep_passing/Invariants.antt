@@ -1,0 +1,16 @@
+-- `vetting::keep::keep_passing` meets its contract. The loop's invariant: the numbers of those of the first `i` candidates that pass stand at the front of `kept`. The measure is what is left of the candidates.
+-- Assumes nothing.
+use Prim.Native.Nat.{◌≤◌, ◌-◌}
+use native.Mathlib.Omega.{arith}
+use mathlib.Core.Path.{◌≡◌}
+use borrow.Author.Rules.{rules}
+use Rattle.filter.specs.Rows.{rows, listed}
+use Rattle.filter.proofs.Rows.{kept_standing}
+use Rattle.vetting.proofs.Passed.{Numbered, numbered_none, crowded_at, numbered_at, numbered_all}
+use Rattle.vetting.proofs.keep.keep_passing.Given as goal
+
+abbrev pub invariant-loop-i : goal.invariant-loop-i
+invariant-loop-i l = (l.i ≤ l.m) × Numbered l.table l.q l.k (listed l.q (rows l.numbers l.xs l.ys l.bars) l.m) l.initial.kept l.i l.n l.kept
+
+abbrev pub decreases-loop-i : goal.decreases-loop-i
+decreases-loop-i l = l.m - l.i
