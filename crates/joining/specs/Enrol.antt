@@ -1,5 +1,5 @@
 -- 01, "Enrolling and withdrawing": a granted enrolment, word by word.
-use Rattle.std.specs.Prelude.{ℕ, zero, suc, ◌+◌, ◌-◌, cond, List, [], ◌∷◌, ◌++◌, leb, pos, length, set}
+use Rattle.std.specs.Prelude.{ℕ, zero, suc, ◌+◌, cond, List, [], ◌∷◌, ◌++◌, leb, pos, length, set}
 use Rattle.table.specs.declared.node.Entry.{Entry}
 use Rattle.figures.specs.Figures.{FAN}
 use Rattle.table.specs.Words.{Words, root_of, points_of}

@@ -7,7 +7,7 @@ use mathlib.Core.List.{List, [], ◌∷◌, ◌++◌, map, map-append}
 use lib.Dec.{eqb}
 use lib.ListN.{length, get_or, length-append, length-map}
 use borrow.Author.Tests.{ltb-true}
-use Rattle.order.specs.Lists.{one, count, some, first_place, join, Mem, All}
+use Rattle.order.specs.Lists.{one, some, first_place, join, Mem, All}
 use Rattle.order.proofs.Lists.{by_bool, count_append, all_mem, mem_all, all_append, all_at, all_then, all_map}
 use Rattle.table.specs.declared.node.Entry.{Entry}
 use Rattle.table.specs.declared.node.Node.{Node}

@@ -3,7 +3,7 @@ use Prim.Native.Nat.{ℕ, ◌-◌, ◌≤◌, ◌<◌}
 use native.Mathlib.Omega.{arith}
 use mathlib.Core.Path.{◌≡◌, sym, ap, subst, ◌∙◌}
 use mathlib.Core.Logic.{⊎_elim}
-use mathlib.Core.Bool.{true, cond, not, ◌&&◌, false≢true}
+use mathlib.Core.Bool.{cond, not, ◌&&◌, false≢true}
 use mathlib.Core.List.Memᴰ
 use mathlib.Core.List.{map}
 use lib.Dec.{eqb}
