@@ -2,15 +2,14 @@
 use Prim.Native.Nat.{ℕ, suc, ◌+◌, ◌-◌, ◌≤◌, ◌<◌}
 use native.Mathlib.Omega.{arith}
 use native.Mathlib.Numerals.{add-one}
-use mathlib.Core.Path.{◌≡◌, refl, sym, ap, subst, ◌∙◌}
+use mathlib.Core.Path.{◌≡◌, refl, sym, ap, ◌∙◌}
 use mathlib.Core.Bool.{cond}
 use mathlib.Core.List.{List, [], ◌∷◌, ◌++◌}
 use lib.Dec.{eqb}
 use lib.ListN.{length, drop, get_or}
 use lib.Seq.{drop-cons}
 use borrow.Author.Tests.{eq-eqb, ne_eqb}
-use types.Run.{OneOf, miss}
-use denote.Enum.Declared.{tag_of}
+use Rattle.grid.specs.declared.place.Place.{Place}
 use Rattle.order.specs.Lists.{join}
 use Rattle.order.specs.Order.{up_from}
 use Rattle.order.proofs.Lists.{by_bool}
@@ -23,7 +22,6 @@ use Rattle.filter.specs.Walk.{spot_in}
 use Rattle.naming.specs.declared.find.Whereabouts.{Whereabouts}
 use Rattle.naming.specs.declared.find.Whereabouts.TheVariants.{At, Nowhere}
 use Rattle.naming.specs.Named.{where_in, where_of}
-use Rattle.naming.specs.contracts.find.Whereabouts.{the_type}
 
 module _ (number : ℕ) where
   -- ---- entry by entry
@@ -73,12 +71,8 @@ module _ (number : ℕ) where
 
 -- ---- by the case of the answer
 
-pub somewhere : (w : Whereabouts) → OneOf (0 ∷ []) (tag_of the_type w) → w ≡ Nowhere → ⊥
-somewhere w m e = miss (0 ∷ []) 1 tt (subst (λ (v : Whereabouts). OneOf (0 ∷ []) (tag_of the_type v)) e m)
-
-pub nowhere : (w : Whereabouts) → OneOf (1 ∷ []) (tag_of the_type w) → w ≡ Nowhere
-nowhere (At p) m = absurd (miss (1 ∷ []) 0 tt m)
-nowhere Nowhere m = refl
+pub somewhere : (w : Whereabouts) (p : Place) → w ≡ At p → w ≡ Nowhere → ⊥
+somewhere w p e n = let z : ◌≡◌ {A = ℕ} 0 1 = cc in absurd (omega arith)
 
 -- from slot to slot; nothing of it is computed
 abbrev pub StandsFrom : Words → ℕ → ℕ → Type 0

@@ -1,0 +1,16 @@
+-- `naming::names::names_in` meets its contract. The loop's invariant: `n` counts the holders in the first `i` places. Assumes nothing.
+use native.Mathlib.Omega.{arith}
+use lib.Dec.{ltb}
+use lib.ListN.{get_or}
+use Rattle.order.specs.Order.{NONE}
+use Rattle.order.proofs.Lists.{one_most, count_more}
+use Rattle.naming.proofs.names.names_in.Goals as goal
+
+pub loop-i-preserved : goal.loop-i-preserved
+loop-i-preserved c =
+    let best = c.args.best.now in
+    let i = c.loop-i.i in (
+      omega arith,
+      omega (arith, c.one-n.ensures, one_most (ltb (get_or best i 0) NONE)),
+      omega (arith, c.one-n.ensures, count_more (λ m. ltb m NONE) best i 0 (omega arith)),
+    )
