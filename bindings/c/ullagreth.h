@@ -1,4 +1,4 @@
-/* The calls of Ullagreth for C programs. They stand in target/staticlib/libexport.a, which `rt staticlib export` proves and writes.
+/* The calls of Ullagreth for C programs. They stand in target/staticlib/libexport.a, which `tools/archive` proves and writes.
  *
  * A lent row passes as a pointer and then the number of its elements. The library takes the caller's word for both: no pointer is null (not
  * even with 0 elements), each is aligned for its type and has that many elements behind it, and a row that a call may write overlaps no other

@@ -1,4 +1,6 @@
 // A test of the program: its body once more, on a sheet of edge cases. `second edges` makes the sheet.
-fn main() {
-    office::run(libc::STDIN_FILENO, libc::STDOUT_FILENO, libc::STDERR_FILENO);
+#![tactic(auto)]
+
+fn main(rt: HostRuntime) {
+    office::run(&mut rt.stdin(), &mut rt.stdout(), &mut rt.stderr());
 }

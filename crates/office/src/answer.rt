@@ -9,17 +9,19 @@ ghost use Rattle.clerk.specs.Running.{longest_line};
 use clerk::run::run_lines;
 use clerk::start::clear;
 use figures::Table;
+use post::write_all;
 use sheet::marks::LONGEST;
 use slip::put_line;
+use std::io::Write;
 use table::given::{Given, number_given};
 
 // The bytes that are written at a time.
 const ROOM: usize = 65536;
 
 // Runs all lines on a table that passes the check. It says whether every write took all of its bytes; after one that did not, no line is run.
-fn answer_lines(
+fn answer_lines<W: Write>(
     sheet: &[u8],
-    fd: i32,
+    output: &mut W,
     table: &mut [i32],
     answers: &mut [u32],
     out: &mut [u8],
@@ -31,7 +33,7 @@ fn answer_lines(
     while at < sheet.len() {
         let run = run_lines(sheet, at, number, table, answers, out);
         let filled = run.filled;
-        if !io::write_all(fd, &out[..filled]) {
+        if !write_all(output, &out[..filled]) {
             return false;
         }
         at = run.at;
@@ -41,14 +43,14 @@ fn answer_lines(
 }
 
 // A sheet starts with the empty table and an answer list of 500; the clerk makes the rows that its queries write on, of 500 places each.
-fn answer_all(sheet: &[u8], fd: i32) -> bool
+fn answer_all<W: Write>(sheet: &[u8], output: &mut W) -> bool
     requires { length sheet.now ≤ LONGEST }
 {
     let mut table = [0i32; Table::LENGTH];
     let mut answers = [0u32; Table::MOST];
     let mut out = [0u8; ROOM];
     clear(&mut table);
-    answer_lines(sheet, fd, &mut table, &mut answers, &mut out)
+    answer_lines(sheet, output, &mut table, &mut answers, &mut out)
 }
 
 // The one line that a sheet too long prints.
@@ -60,16 +62,16 @@ fn put_too_long(out: &mut [u8]) -> usize
 }
 
 // Of a sheet too long no line is run.
-fn answer_too_long(fd: i32) -> bool {
+fn answer_too_long<W: Write>(output: &mut W) -> bool {
     let mut out = [0u8; 44];
     let filled = put_too_long(&mut out);
-    io::write_all(fd, &out[..filled])
+    write_all(output, &out[..filled])
 }
 
 // Writes what a sheet prints, and says whether every byte of it was taken.
-pub(crate) fn answer(sheet: &[u8], fd: i32) -> bool {
+pub(crate) fn answer<W: Write>(sheet: &[u8], output: &mut W) -> bool {
     if sheet.len() > LONGEST {
-        return answer_too_long(fd);
+        return answer_too_long(output);
     }
-    answer_all(sheet, fd)
+    answer_all(sheet, output)
 }

@@ -1,7 +1,11 @@
-// The post: all that comes in on a descriptor, read to its end or until the buffer is full.
-// It promises that no more bytes are counted than the buffer has; a read that fails is told apart from the end of the input. Which bytes C's read puts there no contract can say.
-// It stands on io and libc.
+// The post: all that comes in from a reader, read to its end or until the buffer is full; and what goes out to a writer, whole or not.
+// It promises that no more bytes are counted than the buffer has; a read that fails is told apart from the end of the input. Which bytes the system's read puts there no contract can say.
+// It stands on std alone.
+#![tactic(auto)]
+
 ghost use Rattle.post.specs.Reading.{Filled};
+
+use std::io::{Read, Write};
 
 // How reading ended.
 #[derive(Clone, Copy)]
@@ -12,24 +16,22 @@ pub enum Reading {
 }
 
 // One read: no bytes at the end of the input.
-fn read_more(fd: i32, buffer: &mut [u8]) -> Reading
+fn read_more<R: Read>(reader: &mut R, buffer: &mut [u8]) -> Reading
     ensures { Filled result buffer.new }
 {
-    let got = libc::read(fd, buffer);
-    if got < 0 {
+    let Ok(more) = reader.read(buffer) else {
         return Reading::Failed;
-    }
-    let more = io::count(got, buffer);
+    };
     Reading::Done(more)
 }
 
 // Reads until the input ends or the buffer is full.
-pub fn read_all(fd: i32, buffer: &mut [u8]) -> Reading
+pub fn read_all<R: Read>(reader: &mut R, buffer: &mut [u8]) -> Reading
     ensures { Filled result buffer.new }
 {
     let mut done = 0;
     while done < buffer.len() {
-        let Reading::Done(more) = read_more(fd, &mut buffer[done..]) else {
+        let Reading::Done(more) = read_more(reader, &mut buffer[done..]) else {
             return Reading::Failed;
         };
         if more == 0 {
@@ -38,4 +40,9 @@ pub fn read_all(fd: i32, buffer: &mut [u8]) -> Reading
         done += more;
     }
     Reading::Done(done)
+}
+
+// Writes all of the bytes, and says whether each was taken: a write that fails, or takes none, ends it. Of no bytes no write is made.
+pub fn write_all<W: Write>(writer: &mut W, bytes: &[u8]) -> bool {
+    writer.write_all(bytes).is_ok() && writer.flush().is_ok()
 }

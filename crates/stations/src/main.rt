@@ -1,4 +1,6 @@
 // The program: a station list from standard input, the job sheet that it becomes on standard output, the reports of its faulty records on standard error.
-fn main() {
-    registry::run(libc::STDIN_FILENO, libc::STDOUT_FILENO, libc::STDERR_FILENO);
+#![tactic(auto)]
+
+fn main(rt: HostRuntime) {
+    registry::run(&mut rt.stdin(), &mut rt.stdout(), &mut rt.stderr());
 }

@@ -1,10 +1,14 @@
 // A test of the check: reads tables from standard input, one to a line, and writes the check's number for each.
 // A line has the table's length, then the place and the value of each word that is not the empty table's. `second tables` makes the lines.
+#![tactic(auto)]
+
+ghost use Rattle.std.specs.Prelude.{◌≤◌, length};
+
 use figures::Table;
 use jobs::number::{Read, read_number};
-use libc::STDOUT_FILENO;
 use sheet::fields::{field, field_count};
 use sheet::lines::{line_at, next_at};
+use std::io;
 use table::given::number_given;
 
 // The number in field i, or 0 if it is none.
@@ -63,18 +67,35 @@ fn given_for(line: &[u8]) -> u8 {
     given_of(&words, words::border::natural(number_in(line, 0)))
 }
 
-fn say(given: u8) {
-    io::print_decimal(STDOUT_FILENO, given as u64);
-    io::write_all(STDOUT_FILENO, b"\n");
+fn say(rt: &impl Print, given: u8) -> io::Result<()> {
+    println!(rt; "{given}")
 }
 
-fn main() {
-    let mut sheet = io::large_buffer();
-    let n = io::read_full(0, &mut sheet);
+// Reads until the buffer is full, the input ends or a read fails; so many bytes stand at the front of the buffer.
+fn read_full<R: io::Read>(reader: &mut R, buffer: &mut [u8]) -> usize
+    ensures { result ≤ length buffer.new }
+{
+    let mut done = 0;
+    while done < buffer.len() {
+        let Ok(more) = reader.read(&mut buffer[done..]) else {
+            return done;
+        };
+        if more == 0 {
+            return done;
+        }
+        done += more;
+    }
+    done
+}
+
+fn main(rt: HostRuntime) -> io::Result<()> {
+    let mut sheet = [0u8; 65536];
+    let n = read_full(&mut rt.stdin(), &mut sheet);
     let text = &sheet[..n];
     let mut at = 0;
     while at < text.len() {
-        say(given_for(line_at(text, at)));
+        say(&rt, given_for(line_at(text, at)))?;
         at = next_at(text, at);
     }
+    Ok(())
 }
