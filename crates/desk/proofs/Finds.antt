@@ -5,7 +5,7 @@ use mathlib.Core.Path.{◌≡◌, sym, ap, subst, ◌∙◌}
 use mathlib.Core.Bool.{true}
 use mathlib.Core.List.{List, [], map}
 use lib.IntN.{ℤ}
-use lib.ListN.{length, length_map}
+use lib.ListN.{length, length-map}
 use Rattle.words.specs.Word.{IsWord, nat_of}
 use Rattle.grid.specs.Site.{Site}
 use Rattle.grid.proofs.Site.{SiteOnGrid}
@@ -74,10 +74,10 @@ module _ (q : Site) (g : SiteOnGrid q) (k : ℕ) where
       omega (
         arith,
         sort_length (λ n. n) (map (λ (s : Station). s.number) (filter A cs)),
-        length_map (filter A cs) (λ (s : Station). s.number),
+        length-map (filter A cs) (λ (s : Station). s.number),
         length_filter A cs,
         count_most A cs,
-        length_map (found ws q k).candidates station_of_entry,
+        length-map (found ws q k).candidates station_of_entry,
         (passing_finds p).few,
       )
 
@@ -132,7 +132,7 @@ query_lengths {ws} p q k cs out =
     let records = laid_over new cs in
     let answers = laid_over (answers_found ws q (nat_of k)) out in
     let fits : SiteOnGrid q → points_of ws ≤ room → length records ≡ room = λ grid enough.
-    laid_length new cs (omega (arith, length_map (found ws q (nat_of k)).candidates (record_of q), (passing_finds q grid (nat_of k) p).few)) in
+    laid_length new cs (omega (arith, length-map (found ws q (nat_of k)).candidates (record_of q), (passing_finds q grid (nat_of k) p).few)) in
     by_given g
     (λ e.
     let h = query_granted ws q k room places e in (

@@ -10,5 +10,4 @@ pub mod CallList
 pub mod CallAlone
 pub mod CallCard
 pub mod Once
-pub mod TwoLists
 pub mod PassedOn
