@@ -25,8 +25,8 @@ module _ (sheet : Bytes) (room : ℕ) (s : Stand) where
   abbrev need : ℕ
   need = length s.bytes + longest_line (length s.state.answers)
 
-  pub goes_on : s.at < length sheet → need ≤ room → goes_on sheet room s ≡ true
-  goes_on a b = rw (lt-ltb s.at (length sheet) a, le-leb need room b)
+  pub goes_on_lem : s.at < length sheet → need ≤ room → goes_on sheet room s ≡ true
+  goes_on_lem a b = rw (lt-ltb s.at (length sheet) a, le-leb need room b)
 
   pub no_line : length sheet ≤ s.at → goes_on sheet room s ≡ false
   no_line a = rw (le-ltb s.at (length sheet) a)
@@ -135,7 +135,7 @@ module _ (sheet : Bytes) (at number : ℕ) (before : State) (out : Bytes) where
         let beyond : r.at < next_of sheet r.at = next_beyond FEED sheet r.at more in
         let place = next_place sheet s g.here ran in
         let far : s.at < length sheet = omega (arith, g.here.at) in
-        let less = one_less sheet (length out) s g.lines far g.enough (goes_on sheet (length out) s far h) g.ends in
+        let less = one_less sheet (length out) s g.lines far g.enough (goes_on_lem sheet (length out) s far h) g.ends in
         record {
           stand = line_run sheet s;
           lines = less.0;

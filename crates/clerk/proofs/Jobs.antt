@@ -8,7 +8,7 @@ use lib.ListN.{length, take}
 use Rattle.limits.proofs.Refused.{if_refused}
 use Rattle.grid.specs.Site.{site}
 use Rattle.table.specs.declared.given.Given.{Given}
-use Rattle.table.specs.declared.given.Given.TheVariants as goal
+use Rattle.table.specs.declared.given.Given.TheVariants as variant
 use Rattle.table.specs.Words.{Words}
 use Rattle.table.specs.Given.{number_given, if_done}
 use Rattle.table.specs.Stations.{stations}
@@ -81,9 +81,9 @@ module _ (number : ℕ) (l : State) (out : Bytes) (at : ℕ) (left : Bytes) (nex
 
 -- what such a job comes to: what is given back, the list, and the further numbers of a granted one, which lists so many
 pub record Lists (job : Job) (ws : Words) (old new : List ℕ) (g : Given) (n : ℕ) (more : List ℕ) : Type 0 where
-  pub said : ◌≡◌ {A = Ran} (record { state = lent ws new; goal = g; more = if_done g more [] }) (ran_job (lent ws old) job)
+  pub said : ◌≡◌ {A = Ran} (record { state = lent ws new; given = g; more = if_done g more [] }) (ran_job (lent ws old) job)
   -- the list has room for them
-  pub room : g ≡ goal.Done → n ≤ length old
+  pub room : g ≡ variant.Done → n ≤ length old
 
 module _ {number : ℕ} {job : Job} {ws : Words} {old new : List ℕ} {g : Given} {n : ℕ} {more : List ℕ} {out : Bytes} {at : ℕ} {left : Bytes} {next : ℕ}
     (lists : Lists job ws old new g n more) where
@@ -95,11 +95,11 @@ module _ {number : ℕ} {job : Job} {ws : Words} {old new : List ℕ} {g : Given
     laid = subst (λ r. Laid out at (output_line number (letter_of job) (number_given r.given) r.more) left next) lists.said (rw (← e, ← m) h);
   }
 
-  pub refused_ran : {b : ℕ} → (g ≡ goal.Done → ⊥) → b ≡ number_given g → Laid out at (output_line number (letter_of job) b []) left next
+  pub refused_ran : {b : ℕ} → (g ≡ variant.Done → ⊥) → b ≡ number_given g → Laid out at (output_line number (letter_of job) b []) left next
       → RanJob number job (lent ws old) (lent ws new) out at left next
   refused_ran {b} d e h = list_ran b [] e (sym (if_refused g d more [])) h
 
-  pub granted_ran : g ≡ goal.Done → Laid out at (output_line number (letter_of job) 0 more) left next
+  pub granted_ran : g ≡ variant.Done → Laid out at (output_line number (letter_of job) 0 more) left next
       → RanJob number job (lent ws old) (lent ws new) out at left next
   granted_ran d h = list_ran 0 more (ap number_given (sym d)) (ap (λ x. if_done x more []) (sym d)) h
 
@@ -113,12 +113,12 @@ module _ {ws : Words} {a b k : ℤ} {s t : Slate} {old new : List ℕ} {r : Answ
   says : queried r asked.candidates new ≡ asked
   says = queried_ext told.given told.counts refl told.answers
 
-  answers_room : r.given ≡ goal.Done → r.n ≤ length old
+  answers_room : r.given ≡ variant.Done → r.n ≤ length old
   unfolding after_query
   answers_room d =
       let q = site a b in
       let g = query_gives ws q k (length blank_list) (length old) in
-      let e : g ≡ goal.Done = sym told.given ∙ d in
+      let e : g ≡ variant.Done = sym told.given ∙ d in
       let n : r.n ≡ length (answers_found ws q (nat_of k)) = ap (λ t. t.n) told.counts ∙ rw e in
       omega (arith, (query_granted ws q k (length blank_list) (length old) e).1)
 
@@ -128,11 +128,11 @@ module _ {ws : Words} {a b k : ℤ} {s t : Slate} {old new : List ℕ} {r : Answ
 -- ---- a card
 
 module _ (ws : Words) (n k : ℤ) (old new : List ℕ) (r : Carded) (told : Cards ws n k old new r) where
-  names_room : r.given ≡ goal.Done → r.names ≤ length old
+  names_room : r.given ≡ variant.Done → r.names ≤ length old
   unfolding after_card
   names_room d =
       let g = card_gives ws n k (length old) in
-      let e : g ≡ goal.Done = sym (ap (λ l. l.given) told) ∙ d in
+      let e : g ≡ variant.Done = sym (ap (λ l. l.given) told) ∙ d in
       let m : r.names ≡ length (names_for (stations ws) (nat_of n) (nat_of k)) = ap (λ l. l.names) told ∙ rw e in
       omega (arith, (card_granted ws n k (length old) e).1)
 

@@ -18,7 +18,7 @@ use Rattle.clerk.specs.declared.run.Run.{Run}
 use Rattle.clerk.specs.Sheet.{State, line_output, lines_output, start, sheet_output}
 use Rattle.clerk.specs.Running.{lent, longest_line, Stand, stand_at, line_run, goes_on, lines_run, run_from, LeftAt, rest_output, LineByLine, emptied, runs_output, RunPrints, WholeSheet}
 use Rattle.clerk.proofs.Kept.{line_answers}
-use Rattle.clerk.proofs.Going.{goes_on}
+use Rattle.clerk.proofs.Going.{goes_on_lem}
 
 module _ (sheet : Bytes) (room : ℕ) where
   -- the bytes so far, and then those of the lines to come
@@ -73,7 +73,7 @@ module _ (sheet : Bytes) (room : ℕ) where
       by_bool (λ t. cond t (e.bytes ++ runs_output n sheet room (emptied e)) [] ≡ rest_output sheet s) (ltb s.at (length sheet))
       (λ l.
       let far = ltb-true s.at (length sheet) l in
-      let on = run_first (length sheet) s (omega arith) (goes_on sheet room s far (omega (arith, ap length b))) in
+      let on = run_first (length sheet) s (omega arith) (goes_on_lem sheet room s far (omega (arith, ap length b))) in
       ap (λ bs. e.bytes ++ bs) (runs_whole n (emptied e) refl (omega arith) (omega (arith, run_answers (length sheet) s)))
       ∙ sym ((line_by_line s).goes b))
       (λ l. sym ((line_by_line s).ends (ltb-false s.at (length sheet) l)))
