@@ -1,5 +1,7 @@
 // The calls for C and Rust programs, as a static library: numbers and lent rows, answers by document 01's numbers. The declarations for both stand in bindings/.
 // It promises what desk promises. It stands on desk. None of them has a `requires`.
+#![tactic(auto)]
+
 ghost use Rattle.std.specs.Prelude.{◌≡◌};
 ghost use Rattle.grid.specs.Site.{site};
 ghost use Rattle.table.specs.Given.{number_given};
