@@ -1,6 +1,8 @@
 // The table check: rules 1 to 7 of document 01, each a test of its own that may count on the rules before it. Those of one slot are asked by one loop.
 // It promises, for every slice of words whatever, exactly 1, 2 or 0, with 2 the lowest rule that is broken and the lowest slot where it is; and never reads past an end.
 // It stands on rules (what each rule says) and table (parts, nodes, slots).
+#![tactic(auto)]
+
 ghost use Rattle.std.specs.Prelude.{◌≡◌, ◌<◌, pos, negsuc};
 ghost use Rattle.figures.specs.Figures.{SLOTS};
 ghost use Rattle.audit.specs.Check.{check_gives};

@@ -1,6 +1,8 @@
 // The figures of the table: the most and the least entries of a node, the most points, the slots, the words of each.
 // "The figures 8, 3, 500 and 256 belong to the table" (01): they stand here, as constants of its type, and nowhere else in the code.
 // It promises that they are those of specs/Figures.antt, which every definition and every promise cites. It stands on nothing.
+#![tactic(auto)]
+
 ghost use Rattle.std.specs.Prelude.{◌≡◌};
 ghost use Rattle.figures.specs.Figures.{FAN, LEAST, MOST, SLOTS, ENTRY, WIDTH, LENGTH, HIGHEST};
 

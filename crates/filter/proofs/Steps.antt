@@ -15,7 +15,7 @@ use Rattle.grid.proofs.AsNear.{half_plane}
 use Rattle.order.specs.Lists.{count, join, Mem, All}
 use Rattle.order.specs.Order.{sort_by, Perm, ptrans}
 use Rattle.order.proofs.Perm.{prefl, perm_length, perm_before, perm_behind, perm_turn, perm_append, perm_mem}
-use Rattle.order.proofs.Lists.{by_bool, count_append, count_mono, all_mem, mem_all, all_perm, all_append, join_in, join_one, perm_join}
+use Rattle.order.proofs.Lists.{by_bool, count_append, count_mono, all_mem, mem_all, all_perm, all_append, join_in, perm_join}
 use Rattle.order.proofs.Order.{sort_perm, sort_map}
 use Rattle.table.specs.declared.node.Entry.{Entry}
 use Rattle.table.specs.Words.{Words}

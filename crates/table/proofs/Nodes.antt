@@ -5,14 +5,13 @@ use mathlib.Core.List.{List, [], ◌∷◌, ◌++◌}
 use native.Mathlib.Omega.{arith}
 use denote.Laws.{Is}
 use denote.Struct.Laws.{val}
-use lib.ListN.{length, take, drop, set, get_or, length-map, length-take, length-drop}
+use lib.ListN.{length, take, drop, set, get_or, length-take, length-drop}
 use lib.Seq.{paste, paste-suc, length-paste, take-paste, drop-paste, length-take-le, take-nil, get_or-take, get_or-drop}
 use Rattle.table.specs.declared.node.Entry.{Entry}
 use Rattle.table.specs.declared.node.Node.{Node}
 use Rattle.table.specs.Page.{Page, page, held, shown, Shows, blank_entry}
 use Rattle.table.specs.contracts.node.Node.{the_type, the_row}
 use Rattle.table.proofs.node.Node.TheLaws.{the_laws}
-use Rattle.table.specs.contracts.node.Entry.{the_field}
 
 -- ---- equal by their fields
 

@@ -165,8 +165,22 @@ returns-then-seventh-lt-SLOTS c =
 
 pub returns : goal.returns
 returns c =
-    granted c.args.table.now c.if-table-ne-LENGTH.false
-    (lowest_all c.first_broken-first.ensures c.if-first-lt-SLOTS.false, (passed c.rule2_holds.ensures c.if-not-rule2_holds.false,
-    (lowest_all c.first_broken-third.ensures c.if-third-lt-SLOTS.false, (lowest_all c.rule4_first-fourth.ensures c.if-fourth-lt-SLOTS.false,
-    (lowest_all c.first_broken-fifth.ensures c.if-fifth-lt-SLOTS.false, (lowest_all c.first_broken-sixth.ensures c.if-sixth-lt-SLOTS.false,
-    (passed c.points_agree.ensures c.if-not-points_agree.false, (lowest_all c.rule7_first-seventh.ensures c.if-seventh-lt-SLOTS.false, tt))))))))
+    granted c.args.table.now c.if-table-ne-LENGTH.false (
+      lowest_all c.first_broken-first.ensures c.if-first-lt-SLOTS.false,
+      (
+        passed c.rule2_holds.ensures c.if-not-rule2_holds.false,
+        (
+          lowest_all c.first_broken-third.ensures c.if-third-lt-SLOTS.false,
+          (
+            lowest_all c.rule4_first-fourth.ensures c.if-fourth-lt-SLOTS.false,
+            (
+              lowest_all c.first_broken-fifth.ensures c.if-fifth-lt-SLOTS.false,
+              (
+                lowest_all c.first_broken-sixth.ensures c.if-sixth-lt-SLOTS.false,
+                (passed c.points_agree.ensures c.if-not-points_agree.false, (lowest_all c.rule7_first-seventh.ensures c.if-seventh-lt-SLOTS.false, tt)),
+              ),
+            ),
+          ),
+        ),
+      ),
+    )

@@ -1,11 +1,6 @@
 -- `asking::answer::answer` meets its contract: the walk, the final test of its candidates, and the answers, by the laws of `proofs/Outcome.antt`. Assumes nothing.
-use mathlib.Core.Path.{ap, ◌∙◌}
-use mir.Syntax.{w32}
-use mir.ValLaws.{to_z-of_z}
-use borrow.Author.Rules.{rules}
-use Rattle.words.specs.Word.{on_grid}
 use Rattle.grid.proofs.Site.{SiteOnGrid, site_passed}
-use Rattle.asking.proofs.Outcome.{keepable_so, kept_room_so, replies_so}
+use Rattle.asking.proofs.Outcome.{keepable_so, replies_so}
 use Rattle.asking.proofs.answer.answer.Goals as goal
 
 pub keep_passing-n-requires : goal.keep_passing-n-requires

@@ -1,9 +1,8 @@
 -- `asked::first_broken` meets its contract: each slot passes the rule, or the loop stops at the first that does not. Assumes nothing.
 use Prim.Native.Nat.{◌-◌}
-use native.Mathlib.Omega.{arith}
 use Rattle.figures.specs.Figures.{SLOTS}
 use Rattle.audit.specs.Asked.{rule_at}
-use Rattle.audit.proofs.Every.{Tested, none_tested, one_tested, failed, passed, found_lowest, none_lowest}
+use Rattle.audit.proofs.Every.{Tested}
 use Rattle.audit.proofs.asked.first_broken.Given as goal
 
 abbrev pub invariant-loop-slot : goal.invariant-loop-slot

@@ -1,7 +1,6 @@
 -- `rules::holds_at` meets its contract: each arm is the definition's line for its rule, and what is asked before the rule is what its test requires. Assumes nothing.
 use native.Mathlib.Omega.{arith}
 use mathlib.Core.Path.{subst}
-use borrow.Author.Rules.{rules}
 use Rattle.figures.specs.Figures.{SLOTS}
 use Rattle.rules.specs.Rules.{rule5}
 use Rattle.rules.proofs.Counted.{every_below}

@@ -1,12 +1,8 @@
 -- `children::rule5_at` meets its contract: each entry passes rule 5, or the loop stops at one that does not. Assumes nothing.
 use Prim.Native.Nat.{◌-◌}
-use mathlib.Core.Path.{sym}
-use native.Mathlib.Omega.{arith}
 use Rattle.table.specs.Page.{blank_entry}
-use Rattle.rules.specs.Rules.{is_child, rule5}
-use Rattle.table.proofs.Slots.{page_few}
-use Rattle.audit.proofs.Every.{Tested, test_at, none_tested, one_tested, failed, passed}
-use Rattle.audit.proofs.Entries.{entry_fails, entries_pass}
+use Rattle.rules.specs.Rules.{is_child}
+use Rattle.audit.proofs.Every.{Tested, test_at}
 use Rattle.audit.proofs.children.rule5_at.Given as goal
 
 abbrev pub invariant-loop-i : goal.invariant-loop-i

@@ -1,16 +1,11 @@
 -- `children::rule6_at` meets its contract: each entry passes rule 6, or the loop stops at one that does not. Assumes nothing.
-use Prim.Native.Nat.{◌-◌}
 use mathlib.Core.Path.{◌≡◌, ap, sym, ◌∙◌}
 use native.Mathlib.Omega.{arith}
-use mathlib.Core.Bool.{Bool}
 use lib.ListN.{get_or}
-use Rattle.table.specs.declared.node.Entry.{Entry}
-use Rattle.table.specs.Words.{Words}
-use Rattle.table.specs.Page.{cover_of, blank_entry}
-use Rattle.table.specs.Slots.{entries_at, entry_for}
+use Rattle.table.specs.Page.{blank_entry}
+use Rattle.table.specs.Slots.{entry_for}
 use Rattle.rules.specs.Rules.{same_rect, rule6}
-use Rattle.table.proofs.Slots.{page_few}
-use Rattle.audit.proofs.Every.{Tested, test_at, none_tested, one_tested, failed, passed}
+use Rattle.audit.proofs.Every.{test_at, one_tested, failed, passed}
 use Rattle.audit.proofs.Entries.{entry_fails, entries_pass, child_inside}
 use Rattle.audit.proofs.children.rule6_at.Invariants.{tight_at}
 use Rattle.audit.proofs.children.rule6_at.Goals as goal

@@ -7,7 +7,6 @@ use Rattle.table.specs.Words.{word, is_minus_one, points_of}
 use Rattle.rules.specs.Rules.{is_empty}
 use Rattle.table.proofs.Parts.{none_steps}
 use Rattle.audit.proofs.Every.{lowest_every}
-use borrow.Author.Rules.{rules}
 use Rattle.audit.proofs.header.is_empty.Goals as goal
 
 pub returns-then-steps_at-ne-NONE : goal.returns-then-steps_at-ne-NONE

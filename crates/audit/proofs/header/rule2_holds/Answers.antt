@@ -7,7 +7,6 @@ use Rattle.table.specs.Words.{root_of, between}
 use Rattle.table.specs.Slots.{is_free}
 use Rattle.rules.specs.Rules.{is_empty, rule2}
 use native.Mathlib.Omega.{arith}
-use borrow.Author.Rules.{rules}
 use Rattle.audit.proofs.header.rule2_holds.Goals as goal
 
 pub returns-then-is_empty : goal.returns-then-is_empty

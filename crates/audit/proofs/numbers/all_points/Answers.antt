@@ -1,11 +1,9 @@
 -- `numbers::all_points` meets its contract: each entry is a point, or the loop stops at one that is not. Assumes nothing.
-use Prim.Native.Nat.{◌-◌}
 use mathlib.Core.Path.{sym}
 use native.Mathlib.Omega.{arith}
-use Rattle.table.specs.Page.{blank_entry}
 use Rattle.table.specs.Stations.{is_point}
 use Rattle.table.proofs.Nodes.{full, shows_self}
-use Rattle.audit.proofs.Every.{Tested, test_at, none_tested, one_tested, failed, passed}
+use Rattle.audit.proofs.Every.{failed}
 use Rattle.audit.proofs.Entries.{entry_fails, entries_pass}
 use Rattle.audit.proofs.numbers.all_points.Goals as goal
 

@@ -1,18 +1,17 @@
 -- `numbers::mark` meets its contract. The invariant: the numbers passed are new, and the map marks them too. Assumes nothing.
-use Prim.Native.Nat.{ℕ, suc, ◌-◌, ◌≤◌}
+use Prim.Native.Nat.{suc, ◌≤◌}
 use native.Mathlib.Omega.{arith}
 use mathlib.Core.Path.{◌≡◌, sym, subst}
 use mathlib.Core.Bool.{true, false}
-use mathlib.Core.List.{List}
 use lib.ListN.{get_or, take, drop}
 use Rattle.figures.specs.Figures.{HIGHEST}
 use Rattle.table.specs.Page.{held, blank_entry}
 use Rattle.table.specs.Stations.{is_point}
 use Rattle.table.proofs.Nodes.{full}
 use Rattle.rules.proofs.Tests.{every_all}
-use Rattle.audit.specs.Seen.{refs_of, Marks, Entered}
+use Rattle.audit.specs.Seen.{refs_of, Entered}
 use Rattle.audit.proofs.Entries.{refs_more, refs_split, held_at, number_low}
-use Rattle.audit.proofs.Marked.{none_entered, one_entered, met_again}
+use Rattle.audit.proofs.Marked.{one_entered, met_again}
 use Rattle.audit.proofs.numbers.mark.Goals as goal
 
 pub returns-then-seen-number : goal.returns-then-seen-number

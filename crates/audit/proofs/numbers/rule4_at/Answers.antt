@@ -13,7 +13,6 @@ use Rattle.table.proofs.Slots.{page_few}
 use Rattle.audit.specs.Seen.{refs_of, Entered}
 use Rattle.audit.proofs.Every.{failed, passed}
 use Rattle.audit.proofs.Gathered.{join_more}
-use borrow.Author.Rules.{rules}
 use Rattle.audit.proofs.numbers.rule4_at.Goals as goal
 
 pub returns-then-level_at-ne0 : goal.returns-then-level_at-ne0

@@ -13,7 +13,6 @@ use Rattle.audit.specs.Seen.{refs_of, Tally}
 use Rattle.audit.proofs.Entries.{children_inside}
 use Rattle.audit.proofs.Gathered.{join_more}
 use Rattle.audit.proofs.Tallied.{tally_few}
-use borrow.Author.Rules.{rules}
 use Rattle.audit.proofs.references.count_at.Goals as goal
 
 pub count_references-requires : goal.count_references-requires

@@ -1,9 +1,9 @@
 -- `references::count_references` meets its contract. The invariant: the references passed are counted, and no number is too large. Assumes nothing.
-use Prim.Native.Nat.{ℕ, ◌+◌, ◌-◌, ◌*◌, ◌≤◌, ◌<◌}
+use Prim.Native.Nat.{◌+◌, ◌*◌, ◌<◌}
 use native.Mathlib.Omega.{arith}
 use mathlib.Core.Path.{◌≡◌, subst, ◌∙◌}
-use mathlib.Core.List.{List, [], ◌∷◌, ◌++◌, append-nil, append_assoc}
-use lib.ListN.{length, get_or, take, length-set}
+use mathlib.Core.List.{[], ◌∷◌, ◌++◌, append_assoc}
+use lib.ListN.{get_or, take, length-set}
 use Rattle.figures.specs.Figures.{FAN, SLOTS}
 use Rattle.table.specs.Page.{blank_entry}
 use Rattle.table.proofs.Nodes.{full}

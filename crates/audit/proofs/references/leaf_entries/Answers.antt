@@ -1,11 +1,10 @@
 -- `references::leaf_entries` meets its contract. The invariant: `points` is how many points the slots passed hold, eight a slot at most. Assumes nothing.
-use Prim.Native.Nat.{◌-◌, ◌*◌, ◌≤◌}
-use mathlib.Core.Path.{◌≡◌, refl, ap, ◌∙◌}
+use mathlib.Core.Path.{◌≡◌, ap, ◌∙◌}
 use native.Mathlib.Omega.{arith}
 use lib.ListN.{length}
 use Rattle.order.specs.Lists.{join}
 use Rattle.order.specs.Order.{up_from}
-use Rattle.figures.specs.Figures.{FAN, SLOTS}
+use Rattle.figures.specs.Figures.{SLOTS}
 use Rattle.table.specs.Stations.{stations_at, stations}
 use Rattle.audit.proofs.Gathered.{length_more, points_few}
 use Rattle.audit.proofs.references.leaf_entries.Goals as goal

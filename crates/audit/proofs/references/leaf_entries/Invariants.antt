@@ -1,13 +1,11 @@
 -- `references::leaf_entries` meets its contract. The invariant: `points` is how many points the slots passed hold, eight a slot at most. Assumes nothing.
 use Prim.Native.Nat.{◌-◌, ◌*◌, ◌≤◌}
-use mathlib.Core.Path.{◌≡◌, refl, ap, ◌∙◌}
-use native.Mathlib.Omega.{arith}
+use mathlib.Core.Path.{◌≡◌}
 use lib.ListN.{length}
 use Rattle.order.specs.Lists.{join}
 use Rattle.order.specs.Order.{up_from}
 use Rattle.figures.specs.Figures.{FAN, SLOTS}
-use Rattle.table.specs.Stations.{stations_at, stations}
-use Rattle.audit.proofs.Gathered.{length_more, points_few}
+use Rattle.table.specs.Stations.{stations_at}
 use Rattle.audit.proofs.references.leaf_entries.Given as goal
 
 abbrev pub invariant-loop-slot : goal.invariant-loop-slot

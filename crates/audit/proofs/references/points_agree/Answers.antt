@@ -1,7 +1,6 @@
 -- `references::points_agree` meets its contract. Assumes nothing.
 use mathlib.Core.Path.{refl}
 use Rattle.rules.specs.Rules.{rule7_header}
-use borrow.Author.Rules.{rules}
 use Rattle.audit.proofs.references.points_agree.Goals as goal
 
 pub returns : goal.returns

@@ -1,9 +1,8 @@
 -- `references::points_at` meets its contract: a leaf has as many points as entries. Assumes nothing.
 use mathlib.Core.Path.{sym, ◌∙◌}
-use borrow.Author.Tests.{eq-eqb, ne_eqb}
+use borrow.Author.Tests.{eq-eqb}
 use Rattle.table.specs.Slots.{level_at}
 use Rattle.audit.proofs.Gathered.{points_length}
-use borrow.Author.Rules.{rules}
 use Rattle.audit.proofs.references.points_at.Goals as goal
 
 pub returns : goal.returns

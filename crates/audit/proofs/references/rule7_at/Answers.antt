@@ -7,7 +7,6 @@ use lib.Dec.{eqb}
 use Rattle.table.specs.Words.{root_of}
 use Rattle.table.specs.Slots.{is_free}
 use Rattle.rules.specs.Rules.{rule7}
-use borrow.Author.Rules.{rules}
 use Rattle.audit.proofs.references.rule7_at.Goals as goal
 
 pub returns-then-is_free : goal.returns-then-is_free

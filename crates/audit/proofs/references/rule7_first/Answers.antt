@@ -1,5 +1,4 @@
 -- `references::rule7_first` meets its contract. The invariant: the references of the slots passed are counted. Assumes nothing.
-use Prim.Native.Nat.{◌-◌, ◌≤◌}
 use native.Mathlib.Omega.{arith}
 use mathlib.Core.Path.{◌≡◌, subst}
 use Rattle.order.specs.Lists.{join}

@@ -1,14 +1,10 @@
 -- `references::rule7_first` meets its contract. The invariant: the references of the slots passed are counted. Assumes nothing.
 use Prim.Native.Nat.{◌-◌, ◌≤◌}
-use native.Mathlib.Omega.{arith}
-use mathlib.Core.Path.{◌≡◌, subst}
 use Rattle.order.specs.Lists.{join}
 use Rattle.order.specs.Order.{up_from}
 use Rattle.figures.specs.Figures.{SLOTS}
-use Rattle.rules.specs.Rules.{refs_at, rule5}
-use Rattle.rules.proofs.Counted.{every_below}
+use Rattle.rules.specs.Rules.{refs_at}
 use Rattle.audit.specs.Seen.{Tally}
-use Rattle.audit.proofs.Tallied.{none_tallied}
 use Rattle.audit.proofs.references.rule7_first.Given as goal
 
 abbrev pub invariant-loop-slot : goal.invariant-loop-slot

@@ -8,7 +8,6 @@ use Rattle.table.specs.Words.{word, is_minus_one, start_of, part_at}
 use Rattle.table.specs.Page.{filled}
 use Rattle.rules.specs.Rules.{rule1}
 use Rattle.table.proofs.Parts.{lent_part}
-use borrow.Author.Rules.{rules}
 use Rattle.audit.proofs.shape.rule1_at.Goals as goal
 
 pub returns-then-is_free_part : goal.returns-then-is_free_part

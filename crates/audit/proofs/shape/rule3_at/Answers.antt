@@ -11,7 +11,6 @@ use Rattle.table.specs.Slots.{is_free}
 use Rattle.rules.specs.Rules.{rule3}
 use Rattle.table.proofs.Slots.{word_at}
 use Rattle.audit.proofs.Words.{right_natural, left_negative}
-use borrow.Author.Rules.{rules}
 use Rattle.audit.proofs.shape.rule3_at.Goals as goal
 
 first : (ws : Words) (s : ℕ) → word (part_at ws s) 0 ≡ word ws (start_of s)

@@ -1,14 +1,13 @@
 -- `shape::zeros_from` meets its contract. The invariant: all words passed are zero. Of all words only 0 has the steps of 0. Assumes nothing.
-use Prim.Native.Nat.{ℕ, ◌+◌, ◌-◌, ◌≤◌, ◌<◌}
+use Prim.Native.Nat.{◌+◌, ◌-◌}
 use native.Mathlib.Omega.{arith}
 use mathlib.Core.Path.{◌≡◌, ap, sym, ◌∙◌}
-use mathlib.Core.Bool.{true, false}
-use borrow.Author.Count.{below_more}
+use mathlib.Core.Bool.{false}
 use lib.IntN.{pos}
 use lib.ListN.{length, drop, length-drop}
 use lib.Seq.{get_or-drop}
 use Rattle.table.specs.Words.{word, is_zero}
-use Rattle.audit.proofs.Words.{zero_steps, other_steps}
+use Rattle.audit.proofs.Words.{other_steps}
 use Rattle.audit.proofs.Every.{element_fails, elements_pass}
 use Rattle.audit.proofs.shape.zeros_from.Goals as goal
 

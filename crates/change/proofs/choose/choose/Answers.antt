@@ -1,16 +1,14 @@
 -- `change::choose::choose` meets its contract. The invariant: `best` is the choice among the first k entries. Assumes nothing.
-use Prim.Native.Nat.{ℕ, ◌+◌, ◌-◌, ◌≤◌, ◌<◌}
+use Prim.Native.Nat.{◌+◌, ◌-◌}
 use native.Mathlib.Omega.{arith}
-use mathlib.Core.Path.{◌≡◌, refl, sym, ap, ◌∙◌}
+use mathlib.Core.Path.{◌≡◌, sym, ap, ◌∙◌}
 use mathlib.Core.Bool.{cond}
-use mathlib.Core.Logic.{⊎_elim}
-use lib.ListN.{length, get_or}
-use Rattle.grid.specs.Place.{RectOnGrid}
-use Rattle.table.specs.Page.{held, blank_entry}
+use lib.ListN.{length}
+use Rattle.table.specs.Page.{held}
 use Rattle.table.proofs.Nodes.{full, held_length}
 use Rattle.change.specs.Choose.{takes_before, entry_in, chosen_up_to, chosen}
 use Rattle.change.proofs.Chosen.{chosen_step}
-use Rattle.change.proofs.Held.{held_at, held_all}
+use Rattle.change.proofs.Held.{held_at}
 use Rattle.change.proofs.choose.choose.Goals.{then-takes_before, else-takes_before}
 use Rattle.change.proofs.choose.choose.Goals as goal
 
@@ -24,8 +22,8 @@ loop-k-preserved c =
     let e : chosen_up_to a.new es (l.k + 1 - 1) ≡ cond c.takes_before.result l.k l.best =
     cc (chosen_step a.new es l.k l.invariant.0) in
     elim c.if-takes_before.branch [
-      then-takes_before w ↦ (omega arith, omega arith, omega arith, w.best-is ∙ sym (e ∙ ap (λ b. cond b l.k l.best) w.if-takes_before.true))
-    | else-takes_before w ↦ (omega arith, omega arith, omega arith, w.best-is ∙ sym (e ∙ ap (λ b. cond b l.k l.best) w.if-takes_before.false))
+      | then-takes_before w ↦ (omega arith, omega arith, omega arith, w.best-is ∙ sym (e ∙ ap (λ b. cond b l.k l.best) w.if-takes_before.true))
+      | else-takes_before w ↦ (omega arith, omega arith, omega arith, w.best-is ∙ sym (e ∙ ap (λ b. cond b l.k l.best) w.if-takes_before.false))
     ]
 
 pub returns : goal.returns

@@ -1,5 +1,4 @@
 -- `change::choose::takes_before` meets its contract: the measures that it compares are those of the definition. Assumes nothing.
-use borrow.Author.Rules.{rules}
 use Rattle.change.specs.Choose.{takes_before}
 use Rattle.change.proofs.choose.takes_before.Goals as goal
 

@@ -1,6 +1,5 @@
 -- `change::share::lined` meets its contract: the row is the stable order of the sums, and what is picked by it is the sorted list. Assumes nothing.
 use Prim.Native.Nat.{◌≤◌, ◌<◌}
-use borrow.Author.Rules.{rules}
 use mathlib.Core.Path.{◌≡◌, ap, subst, ◌∙◌}
 use lib.ListN.{length, take}
 use Rattle.grid.specs.Place.{longer_axis}

@@ -1,11 +1,10 @@
 -- `change::share::placed_by` meets its contract. The invariant: the entries at the first k places of the row have been copied. Assumes nothing.
-use Prim.Native.Nat.{◌+◌, ◌-◌, ◌≤◌, ◌<◌}
+use Prim.Native.Nat.{◌+◌}
 use native.Mathlib.Omega.{arith}
-use mathlib.Core.Path.{◌≡◌, refl, sym, ap, ◌∙◌}
+use mathlib.Core.Path.{◌≡◌, sym, ap, ◌∙◌}
 use lib.ListN.{length, take, get_or, length-map}
-use lib.Seq.{paste, paste-zero}
 use Rattle.order.specs.Order.{pick}
-use Rattle.order.proofs.Lists.{map_take, all_at}
+use Rattle.order.proofs.Lists.{map_take}
 use Rattle.order.proofs.Order.{pick_at}
 use Rattle.table.specs.Page.{page, blank_entry}
 use Rattle.table.proofs.Nodes.{full, copy_more, copy_shows}

@@ -1,14 +1,9 @@
 -- `change::share::placed_by` meets its contract. The invariant: the entries at the first k places of the row have been copied. Assumes nothing.
-use Prim.Native.Nat.{◌+◌, ◌-◌, ◌≤◌, ◌<◌}
-use native.Mathlib.Omega.{arith}
-use mathlib.Core.Path.{◌≡◌, refl, sym, ap, ◌∙◌}
-use lib.ListN.{length, take, get_or, length-map}
-use lib.Seq.{paste, paste-zero}
+use Prim.Native.Nat.{◌-◌, ◌≤◌}
+use mathlib.Core.Path.{◌≡◌}
+use lib.Seq.{paste}
 use Rattle.order.specs.Order.{pick}
-use Rattle.order.proofs.Lists.{map_take, all_at}
-use Rattle.order.proofs.Order.{pick_at}
-use Rattle.table.specs.Page.{page, blank_entry}
-use Rattle.table.proofs.Nodes.{full, copy_more, copy_shows}
+use Rattle.table.specs.Page.{blank_entry}
 use Rattle.change.proofs.share.placed_by.Given as goal
 
 abbrev pub invariant-loop-k : goal.invariant-loop-k

@@ -2,12 +2,10 @@
 use mathlib.Core.List.{◌∷◌}
 use native.Mathlib.Omega.{arith}
 use lib.ListN.{take}
-use Rattle.limits.proofs.Refused.{not_done}
 use Rattle.desk.specs.Carding.{Cards}
 use Rattle.limits.proofs.CallTests.{two_back}
 use Rattle.jobs.specs.declared.job.Job.TheVariants.{Card}
 use Rattle.clerk.proofs.Jobs.{Lists, refused_ran, granted_ran, card_lists}
-use borrow.Author.Rules.{rules}
 use Rattle.clerk.proofs.line.run_card.Goals as goal
 
 pub returns-in_default : goal.returns-in_default

@@ -1,18 +1,15 @@
 -- `clerk::line::run_line` meets its contract, job by job. Assumes nothing.
-use mathlib.Core.Path.{◌≡◌, refl, sym, subst, ◌∙◌}
+use mathlib.Core.Path.{sym, subst, ◌∙◌}
 use mathlib.Core.List.{[]}
-use lib.ListN.{length}
 use Rattle.grid.specs.Site.{site}
-use Rattle.asking.specs.Slate.{slate}
 use Rattle.refusals.specs.Refusals.{enrol_gives, withdraw_gives}
 use Rattle.desk.specs.Calls.{after_enrol, after_withdraw}
-use Rattle.desk.specs.Alone.{slate_left}
 use Rattle.limits.proofs.CallTests.{one_passed, three_passed, two_back, three_back}
 use Rattle.jobs.specs.declared.job.Job.TheVariants.{Query, Card}
 use Rattle.jobs.specs.Job.{ENROL, WITHDRAW}
 use Rattle.slip.specs.Output.{output_line, Laid}
 use Rattle.clerk.specs.Running.{lent, RanJob}
-use Rattle.clerk.proofs.Jobs.{line_ran, line_slate, enrol_ran, withdraw_ran, missing_ran, misshapen_ran}
+use Rattle.clerk.proofs.Jobs.{line_ran, enrol_ran, withdraw_ran, missing_ran, misshapen_ran}
 use borrow.Author.Rules.{rules}
 use Rattle.clerk.proofs.line.run_line.Goals as goal
 

@@ -2,14 +2,12 @@
 use mathlib.Core.List.{◌∷◌}
 use native.Mathlib.Omega.{arith}
 use lib.ListN.{take}
-use Rattle.limits.proofs.Refused.{not_done}
 use Rattle.grid.specs.Site.{site}
 use Rattle.asking.specs.Slate.{slate}
 use Rattle.desk.specs.Alone.{AnswersAlone}
 use Rattle.limits.proofs.CallTests.{three_back}
 use Rattle.jobs.specs.declared.job.Job.TheVariants.{Query}
 use Rattle.clerk.proofs.Jobs.{Lists, refused_ran, granted_ran, query_lists}
-use borrow.Author.Rules.{rules}
 use Rattle.clerk.proofs.line.run_query.Goals as goal
 
 pub returns-in_default : goal.returns-in_default

@@ -1,14 +1,12 @@
 -- `clerk::run::run_lines` meets its contract. The loop's invariant: the run goes as its definition has it, and the five rows, on which what stands decides nothing, stay as long. Assumes nothing.
-use Prim.Native.Nat.{◌+◌, ◌-◌}
-use mathlib.Core.Path.{◌≡◌, refl, sym, subst, ◌∙◌}
+use Prim.Native.Nat.{◌+◌}
+use mathlib.Core.Path.{refl, sym, subst, ◌∙◌}
 use native.Mathlib.Omega.{arith}
-use lib.ListN.{length}
 use borrow.Author.Rules.{rules}
-use Rattle.figures.specs.Figures.{MOST}
 use Rattle.sheet.specs.Bytes.{FEED}
 use Rattle.sheet.proofs.Parted.{next_beyond}
 use Rattle.clerk.specs.Running.{lent, RanOne}
-use Rattle.clerk.proofs.Going.{Going, going_first, going_more, going_end, going_full}
+use Rattle.clerk.proofs.Going.{Going, going_first, going_more}
 use Rattle.clerk.proofs.run.run_lines.Goals as goal
 
 pub loop-run-init : goal.loop-run-init

@@ -1,11 +1,9 @@
 -- `clerk::start::clear` meets its contract. The loop's invariant: the header is the empty table's, and the slots passed are free. Assumes nothing.
-use Prim.Native.Nat.{◌+◌, ◌-◌, ◌≤◌}
-use mathlib.Core.Path.{sym, ap, subst, ◌∙◌}
+use Prim.Native.Nat.{◌+◌}
+use mathlib.Core.Path.{sym, subst}
 use native.Mathlib.Omega.{arith}
 use borrow.Author.Rules.{rules}
-use Rattle.figures.specs.Figures.{SLOTS}
-use Rattle.table.specs.Slots.{with_points}
-use Rattle.clerk.proofs.Cleared.{Cleared, cleared_none, cleared_more, cleared_all}
+use Rattle.clerk.proofs.Cleared.{Cleared, cleared_more, cleared_all}
 use Rattle.clerk.proofs.start.clear.Goals as goal
 
 pub loop-slot-preserved : goal.loop-slot-preserved

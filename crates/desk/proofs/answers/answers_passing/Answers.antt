@@ -20,7 +20,6 @@ use Rattle.grid.proofs.Site.{site_passed}
 use Rattle.desk.proofs.Granted.{QueryReady, query_granted}
 use Rattle.desk.proofs.CallList.{refused_not_done, not_refused_done}
 use Rattle.desk.proofs.CallAlone.{alone_refused, alone_told}
-use borrow.Author.Rules.{rules}
 use Rattle.desk.proofs.answers.answers_passing.Goals as goal
 
 wide_less : {m n : ℕ} {s : Slate} → m ≤ n → Wide n s → Wide m s
@@ -45,7 +44,7 @@ answer-reply-requires c =
     let a = c.args in
     three_passed (λ x y k. query_gives a.table.now (site x y) k MOST (answers_told a.table.now (site x y) k)) a.x a.y a.k c.ranges.x c.ranges.y c.ranges.k c.query_given-given.ensures in
     let granted : c.query_given-given.result ≡ Done → let a = c.args in QueryReady a.table.now (site a.x a.y) a.k MOST =
-    λ done. 
+    λ done.
     let a = c.args in
     (query_granted a.table.now (site a.x a.y) a.k MOST (answers_told a.table.now (site a.x a.y) a.k) (sym (asked) ∙ done)).0 in
     let a = c.args in

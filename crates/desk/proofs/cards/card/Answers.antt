@@ -1,14 +1,11 @@
 -- `cards::card` meets its contract: what the check refuses is refused, and a table that passes is one for `card_passing`. Assumes nothing.
 use mathlib.Core.Path.{sym, subst}
 use lib.ListN.{length}
-use Rattle.limits.proofs.Refused.{not_done}
 use Rattle.refusals.specs.declared.carding.Carded.{Carded}
-use Rattle.limits.proofs.CallTests.{two_back}
 use Rattle.refusals.proofs.CallOrder.{passes}
 use Rattle.refusals.proofs.CardOrder.{check_not_short, card_first}
 use Rattle.desk.specs.Carding.{Cards}
 use Rattle.desk.proofs.CallCard.{card_refused_is}
-use borrow.Author.Rules.{rules}
 use Rattle.desk.proofs.cards.card.Goals as goal
 
 pub returns-in_default : goal.returns-in_default

@@ -3,7 +3,6 @@ use Prim.Native.Nat.{ℕ}
 use native.Mathlib.Omega.{arith}
 use mathlib.Core.Path.{◌≡◌, sym, ap, subst, ◌∙◌}
 use lib.ListN.{length}
-use Rattle.limits.proofs.Refused.{not_done}
 use Rattle.words.proofs.Machine.{natural_passed}
 use Rattle.words.specs.Word.{nat_of}
 use Rattle.order.specs.Lists.{has}
@@ -16,11 +15,9 @@ use Rattle.refusals.specs.Refusals.{numbers_of}
 use Rattle.refusals.specs.Carding.{card_asked}
 use Rattle.limits.proofs.CallTests.{two_passed}
 use Rattle.refusals.proofs.CallNumbers.{enrolled_not, enrolled_is}
-use Rattle.refusals.proofs.CardOrder.{asked_done, asked_not_short, card_early, card_8, card_last}
+use Rattle.refusals.proofs.CardOrder.{asked_not_short, card_early, card_8, card_last}
 use Rattle.desk.specs.Carding.{Cards}
-use Rattle.desk.proofs.Granted.{within}
 use Rattle.desk.proofs.CallCard.{card_refused_is, card_told_is}
-use borrow.Author.Rules.{rules}
 use Rattle.desk.proofs.cards.card_passing.Goals as goal
 
 pub returns-in_default : goal.returns-in_default

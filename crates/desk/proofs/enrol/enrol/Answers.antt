@@ -1,12 +1,7 @@
 -- `enrol::enrol` meets its contract: what the check refuses is refused, and a table that passes is one for `enrol_passing`. Assumes nothing.
-use Rattle.limits.proofs.Refused.{not_done}
 use Rattle.grid.specs.Site.{site}
-use Rattle.refusals.specs.Refusals.{enrol_gives}
-use Rattle.desk.specs.Calls.{after_enrol}
-use Rattle.limits.proofs.CallTests.{three_passed}
 use Rattle.desk.proofs.CallAfter.{enrol_refused_lem}
 use Rattle.refusals.proofs.CallOrder.{passes, enrol_first}
-use borrow.Author.Rules.{rules}
 use Rattle.desk.proofs.enrol.enrol.Goals as goal
 
 pub returns-in_default : goal.returns-in_default

@@ -1,6 +1,5 @@
 -- `enrol::enrol_passing` meets its contract: a refusal leaves the table, and a granted enrolment puts the point's entry in. Assumes nothing.
 use mathlib.Core.Path.{sym, ap, ◌∙◌}
-use Rattle.limits.proofs.Refused.{not_done}
 use Rattle.grid.specs.Site.{site}
 use Rattle.table.specs.Stations.{is_point}
 use Rattle.joining.specs.Enrol.{enrolled}
@@ -10,7 +9,6 @@ use Rattle.desk.proofs.Granted.{enrol_granted}
 use Rattle.desk.proofs.Kept.{point_entry_lem}
 use Rattle.limits.proofs.CallTests.{three_passed}
 use Rattle.desk.proofs.CallAfter.{enrol_refused_lem, enrol_done}
-use borrow.Author.Rules.{rules}
 use Rattle.desk.proofs.enrol.enrol_passing.Goals as goal
 
 pub returns-in_default : goal.returns-in_default

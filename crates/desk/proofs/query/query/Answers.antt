@@ -1,5 +1,5 @@
 -- `query::query` meets its contract: what the check refuses is refused, and a table that passes is one for `query_passing`. Assumes nothing.
-use mathlib.Core.Path.{◌≡◌, sym, subst, ◌∙◌}
+use mathlib.Core.Path.{sym, subst, ◌∙◌}
 use lib.ListN.{length}
 use Rattle.grid.specs.Site.{site}
 use Rattle.refusals.specs.declared.answered.Answered.{Answered}

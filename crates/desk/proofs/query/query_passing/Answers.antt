@@ -1,8 +1,7 @@
 -- `query::query_passing` meets its contract: what is refused is refused, and a granted query hands both lists on. Assumes nothing.
 use Prim.Native.Nat.{ℕ}
-use mathlib.Core.Path.{◌≡◌, sym, ap, subst, ◌∙◌}
+use mathlib.Core.Path.{sym, ap, subst, ◌∙◌}
 use lib.ListN.{length}
-use Rattle.words.specs.Word.{nat_of}
 use Rattle.words.proofs.Machine.{natural_passed}
 use Rattle.grid.specs.Site.{Site, site}
 use Rattle.grid.proofs.Site.{site_passed}

@@ -1,11 +1,6 @@
 -- `withdraw::withdraw` meets its contract: what the check refuses is refused, and a table that passes is one for `withdraw_passing`. Assumes nothing.
-use Rattle.limits.proofs.Refused.{not_done}
-use Rattle.refusals.specs.Refusals.{withdraw_gives}
-use Rattle.desk.specs.Calls.{after_withdraw}
-use Rattle.limits.proofs.CallTests.{one_passed}
 use Rattle.desk.proofs.CallAfter.{withdraw_refused_lem}
 use Rattle.refusals.proofs.CallOrder.{passes, withdraw_first}
-use borrow.Author.Rules.{rules}
 use Rattle.desk.proofs.withdraw.withdraw.Goals as goal
 
 pub returns-in_default : goal.returns-in_default

@@ -1,6 +1,5 @@
 -- `withdraw::withdraw_passing` meets its contract: a refusal leaves the table, and a granted withdrawal takes the number out. Assumes nothing.
 use mathlib.Core.Path.{sym, ap, ◌∙◌}
-use Rattle.limits.proofs.Refused.{not_done}
 use Rattle.words.proofs.Machine.{natural_passed}
 use Rattle.order.specs.Lists.{has}
 use Rattle.leaving.specs.Withdraw.{withdrawn}
@@ -8,7 +7,6 @@ use Rattle.refusals.specs.Refusals.{numbers_of, withdraw_gives}
 use Rattle.desk.proofs.Granted.{withdraw_granted}
 use Rattle.limits.proofs.CallTests.{one_passed}
 use Rattle.desk.proofs.CallAfter.{withdraw_refused_lem, withdraw_done}
-use borrow.Author.Rules.{rules}
 use Rattle.desk.proofs.withdraw.withdraw_passing.Goals as goal
 
 pub returns-in_default : goal.returns-in_default

@@ -1,6 +1,5 @@
 -- `filter::candidate::visit` meets its contract: the test of the code is that of the walk, and the rows take one more record where it fails. Assumes nothing.
 use native.Mathlib.Omega.{arith}
-use borrow.Author.Rules.{rules}
 use Rattle.rules.proofs.Reading.{point}
 use Rattle.filter.specs.Rows.{rows}
 use Rattle.filter.proofs.Rows.{kept_standing}

@@ -1,7 +1,6 @@
 -- `filter::find::find` meets its contract: the empty table is told by its points, and from the root of any other the walk has room. Assumes nothing.
 use native.Mathlib.Omega.{arith}
 use mathlib.Core.Path.{◌≡◌, refl, sym, ap, ◌∙◌}
-use borrow.Author.Rules.{rules}
 use Rattle.grid.specs.Site.{Site, place_of}
 use Rattle.words.proofs.Words.{word_fits, grid_word}
 use Rattle.grid.proofs.Site.{SiteOnGrid, site_passed}

@@ -1,17 +1,14 @@
 -- `filter::nearest::nearest` meets its contract. The loop's invariant: the squares of the first `i` entries are marked. The row is that of the marks. Assumes nothing.
-use Prim.Native.Nat.{ℕ, ◌≤◌, ◌<◌, ◌-◌}
+use Prim.Native.Nat.{ℕ, ◌≤◌, ◌<◌}
 use native.Mathlib.Omega.{arith}
 use mathlib.Core.Path.{◌≡◌, sym, ap, subst, ◌∙◌}
 use mathlib.Core.List.{List, map}
-use lib.IntN.{ℤ}
 use lib.ListN.{length, length-map}
-use borrow.Author.Rules.{rules}
-use Rattle.grid.specs.declared.place.Place.{Place}
 use Rattle.grid.specs.Place.{RectOnGrid, least_square}
 use Rattle.grid.proofs.Rects.{least_square_most}
 use Rattle.order.specs.Order.{key_at, row_of, mark_of}
 use Rattle.order.proofs.Lists.{map_at, all_at}
-use Rattle.order.proofs.Marks.{Marked, marked_none, marked_next, marked_marks, marked_keys}
+use Rattle.order.proofs.Marks.{Marked, marked_next, marked_keys}
 use Rattle.table.specs.declared.node.Entry.{Entry}
 use Rattle.table.specs.Page.{blank_entry}
 use Rattle.table.specs.Slots.{entries_at}
@@ -28,8 +25,7 @@ mark-requires c =
     omega (arith, c.loop-i-test.true, c.count_at-count.ensures) in
     let read_grid : RectOnGrid c.entry_at-e.result.rect =
     let es = entries_at c.args.table.now c.args.slot in
-    rw c.entry_at-e.ensures (all_at (λ e. RectOnGrid e.rect) es c.loop-i.i blank_entry (in_node) c.requires.all) in
-    (
+    rw c.entry_at-e.ensures (all_at (λ e. RectOnGrid e.rect) es c.loop-i.i blank_entry (in_node) c.requires.all) in (
       omega (arith, c.least_square.ensures, least_square_most (read_grid) c.requires.table_len.2),
       omega (arith, c.loop-i-test.true, few),
     )

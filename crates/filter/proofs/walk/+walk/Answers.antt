@@ -1,33 +1,19 @@
 -- `filter::walk::walk` meets its contract, by recursion on the level. The loop's invariant: the rows hold what the turns of the first `i` children have found. Assumes nothing.
-use Prim.Native.Nat.{ℕ, ◌-◌, ◌≤◌, ◌<◌}
+use Prim.Native.Nat.{◌-◌, ◌<◌}
 use native.Mathlib.Omega.{arith}
-use mathlib.Core.Path.{◌≡◌, refl, ◌∙◌}
-use lib.ListN.{length, take}
-use borrow.Author.Rules.{rules}
+use mathlib.Core.Path.{refl, ◌∙◌}
+use lib.ListN.{length}
 use Rattle.grid.specs.Place.{RectOnGrid}
 use Rattle.table.specs.Slots.{entries_at}
 use Rattle.table.proofs.Slots.{page_few}
 use Rattle.order.proofs.Lists.{all_then}
-use Rattle.filter.specs.Walk.{each, nearest_first, entered, walk as walk_of}
-use Rattle.filter.specs.Rows.{rows, found_in, Noted}
+use Rattle.filter.specs.Walk.{entered, walk as walk_of}
+use Rattle.filter.specs.Rows.{rows, found_in}
 use Rattle.filter.proofs.Rows.{kept_standing}
 use Rattle.filter.proofs.Visits.{noted_same, enter_hidden, enter_open, enter_ready}
 use Rattle.filter.proofs.Turns.{walk_opens}
 use Rattle.filter.proofs.Taken.{taken_below}
-use Rattle.filter.proofs.NodeTurns.{
-  Turns,
-  Turn,
-  turn,
-  turns_end,
-  passable_slot,
-  passable_zero,
-  passable_above,
-  walk_zero,
-  walk_above,
-  IsChild,
-  leaf_ready,
-  above_turns,
-}
+use Rattle.filter.proofs.NodeTurns.{Turns, turn, turns_end, passable_slot, passable_above, walk_above, IsChild, above_turns}
 use Rattle.filter.proofs.walk.+walk.Goals as goal
 
 pub opening-so_far-requires : goal.opening-so_far-requires
@@ -60,8 +46,7 @@ bounds-row-i t c =
 pub entry_at-e-requires : goal.entry_at-e-requires
 entry_at-e-requires t c =
     let a = c.args in
-    let in_node : c.loop-i.i < length (entries_at a.table.now a.slot) = omega (arith, c.loop-i-test.true, c.count_at-count.ensures) in
-    (
+    let in_node : c.loop-i.i < length (entries_at a.table.now a.slot) = omega (arith, c.loop-i-test.true, c.count_at-count.ensures) in (
       c.requires.table_len.0,
       passable_slot a.level a.table.now a.slot c.requires.table_len.1,
       taken_below (entries_at a.table.now a.slot) a.q a.k c.nearest-row.result c.nearest-row.ensures c.loop-i.i in_node,
@@ -85,8 +70,7 @@ loop-i-preserved-then-k-near t c =
     rw c.opening-so_far.ensures (above_turns a.q a.k a.table.now a.slot a.level first a.seen c.requires.ready (omega (arith, c.if-level-eq0.false)) c.requires.table_len.1) in
     let in_node : c.loop-i.i < length (entries_at a.table.now a.slot) = omega (arith, c.loop-i-test.true, c.count_at-count.ensures) in
     let x = turn turns_here c.loop-i.i c.nearest-row.ensures in_node c.entry_at-e.ensures c.loop-i.invariant.1 in
-    let r = rows c.loop-i.numbers c.loop-i.xs c.loop-i.ys c.loop-i.bars in
-    (
+    let r = rows c.loop-i.numbers c.loop-i.xs c.loop-i.ys c.loop-i.bars in (
       omega (arith, c.loop-i-test.true),
       x.done _ _ (rw (enter_hidden c.entry_at-e.result a.q a.k r c.loop-i.so_far _ c.all_as_near-near.ensures (walk_of a.q a.k (a.level - 1) a.table.now) c.if-k-near.true) (noted_same x.kept)),
       c.loop-i.invariant.2,
@@ -103,8 +87,7 @@ walk-so_far-requires t c =
     rw c.opening-so_far.ensures (above_turns a.q a.k a.table.now a.slot a.level first a.seen c.requires.ready (omega (arith, c.if-level-eq0.false)) c.requires.table_len.1) in
     let in_node : c.loop-i.i < length (entries_at a.table.now a.slot) = omega (arith, c.loop-i-test.true, c.count_at-count.ensures) in
     let x = turn turns_here c.loop-i.i c.nearest-row.ensures in_node c.entry_at-e.ensures c.loop-i.invariant.1 in
-    let r = rows c.loop-i.numbers c.loop-i.xs c.loop-i.ys c.loop-i.bars in
-    (
+    let r = rows c.loop-i.numbers c.loop-i.xs c.loop-i.ys c.loop-i.bars in (
       omega (arith, c.decreases, c.if-level-eq0.false),
       ((c.requires.table_len.0, x.good.1), enter_ready c.entry_at-e.result a.q a.k r c.loop-i.so_far _ c.all_as_near-near.ensures (walk_of a.q a.k (a.level - 1) a.table.now) c.if-k-near.false x.ready),
     )
@@ -117,8 +100,7 @@ loop-i-preserved t c =
     rw c.opening-so_far.ensures (above_turns a.q a.k a.table.now a.slot a.level first a.seen c.requires.ready (omega (arith, c.if-level-eq0.false)) c.requires.table_len.1) in
     let in_node : c.loop-i.i < length (entries_at a.table.now a.slot) = omega (arith, c.loop-i-test.true, c.count_at-count.ensures) in
     let x = turn turns_here c.loop-i.i c.nearest-row.ensures in_node c.entry_at-e.ensures c.loop-i.invariant.1 in
-    let r = rows c.loop-i.numbers c.loop-i.xs c.loop-i.ys c.loop-i.bars in
-    (
+    let r = rows c.loop-i.numbers c.loop-i.xs c.loop-i.ys c.loop-i.bars in (
       omega (arith, c.loop-i-test.true),
       x.done _ _ (rw (enter_open c.entry_at-e.result a.q a.k r c.loop-i.so_far _ c.all_as_near-near.ensures (walk_of a.q a.k (a.level - 1) a.table.now) c.if-k-near.false) c.walk-so_far.ensures),
       c.walk-so_far.auto.numbers ∙ c.loop-i.invariant.2,

@@ -1,18 +1,17 @@
 -- `filter::walk::visit_leaf` meets its contract. The loop's invariant: the rows hold what the visits of the first `i` points have found. Assumes nothing.
-use Prim.Native.Nat.{◌≤◌, ◌<◌, ◌-◌}
+use Prim.Native.Nat.{◌<◌}
 use native.Mathlib.Omega.{arith}
 use mathlib.Core.Path.{◌≡◌, refl, ◌∙◌}
 use mathlib.Core.Bool.{true}
-use lib.ListN.{length, take}
-use borrow.Author.Rules.{rules}
+use lib.ListN.{length}
 use Rattle.grid.specs.Place.{RectOnGrid}
 use Rattle.table.specs.Slots.{entries_at}
 use Rattle.table.specs.Stations.{is_point}
 use Rattle.table.proofs.Slots.{page_few}
 use Rattle.order.proofs.Lists.{all_then}
 use Rattle.rules.proofs.Reading.{point, point_upright}
-use Rattle.filter.specs.Walk.{each, nearest_first, visited}
-use Rattle.filter.specs.Rows.{rows, found_in, Noted}
+use Rattle.filter.specs.Walk.{visited}
+use Rattle.filter.specs.Rows.{rows, found_in}
 use Rattle.filter.proofs.Visits.{noted_same}
 use Rattle.filter.proofs.Taken.{taken_below}
 use Rattle.filter.proofs.NodeTurns.{Turns, Turn, turn, turns_end, IsPoint, leaf_turns}
@@ -71,8 +70,7 @@ loop-i-preserved c =
     let in_node : (let a = c.args in c.loop-i.i < length (entries_at a.table.now a.slot)) =
     omega (arith, c.loop-i-test.true, c.count_at-count.ensures) in
     let turn_here : (let a = c.args in Turn IsPoint a.q a.k (visited a.q a.k) (entries_at a.table.now a.slot) (found_in a.q (rows a.numbers.now a.xs.now a.ys.now a.bars.now) a.seen) (rows a.numbers.now a.xs.now a.ys.now a.bars.now) c.loop-i.i c.entry_at-e.result (rows c.loop-i.numbers c.loop-i.xs c.loop-i.ys c.loop-i.bars) c.loop-i.so_far) =
-    turn (turns_here) c.loop-i.i c.nearest-row.ensures (in_node) c.entry_at-e.ensures c.loop-i.invariant.1 in
-    (
+    turn (turns_here) c.loop-i.i c.nearest-row.ensures (in_node) c.entry_at-e.ensures c.loop-i.invariant.1 in (
       omega (arith, c.loop-i-test.true),
       (turn_here).done _ _ c.visit-so_far.ensures,
       c.visit-so_far.auto.numbers ∙ c.loop-i.invariant.2,

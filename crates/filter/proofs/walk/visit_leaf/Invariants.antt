@@ -1,21 +1,10 @@
 -- `filter::walk::visit_leaf` meets its contract. The loop's invariant: the rows hold what the visits of the first `i` points have found. Assumes nothing.
-use Prim.Native.Nat.{◌≤◌, ◌<◌, ◌-◌}
-use native.Mathlib.Omega.{arith}
-use mathlib.Core.Path.{◌≡◌, refl, ◌∙◌}
-use mathlib.Core.Bool.{true}
+use Prim.Native.Nat.{◌≤◌, ◌-◌}
+use mathlib.Core.Path.{◌≡◌}
 use lib.ListN.{length, take}
-use borrow.Author.Rules.{rules}
-use Rattle.grid.specs.Place.{RectOnGrid}
 use Rattle.table.specs.Slots.{entries_at}
-use Rattle.table.specs.Stations.{is_point}
-use Rattle.table.proofs.Slots.{page_few}
-use Rattle.order.proofs.Lists.{all_then}
-use Rattle.rules.proofs.Reading.{point, point_upright}
 use Rattle.filter.specs.Walk.{each, nearest_first, visited}
 use Rattle.filter.specs.Rows.{rows, found_in, Noted}
-use Rattle.filter.proofs.Visits.{noted_same}
-use Rattle.filter.proofs.Taken.{taken_below}
-use Rattle.filter.proofs.NodeTurns.{Turns, Turn, turn, turns_end, IsPoint, leaf_turns}
 use Rattle.filter.proofs.walk.visit_leaf.Given as goal
 
 abbrev pub invariant-loop-i : goal.invariant-loop-i

@@ -1,15 +1,9 @@
 -- `leads::count::all_as_near` meets its contract. The loop's invariant: `n` counts those of the first `i` candidates whose bar the sum of the corner that counts for them reaches. The measure is what is left of the candidates. Assumes nothing.
-use Prim.Native.Nat.{ℕ, ◌*◌, ◌≤◌, ◌-◌}
-use native.Mathlib.Omega.{arith}
-use mathlib.Core.Path.{◌≡◌, refl, ◌∙◌}
-use mathlib.Core.Bool.{Bool}
-use lib.ListN.{get_or}
-use Rattle.order.specs.Lists.{one, count}
+use Prim.Native.Nat.{◌≤◌, ◌-◌}
+use mathlib.Core.Path.{◌≡◌}
+use Rattle.order.specs.Lists.{count}
 use Rattle.order.specs.Order.{up_from}
-use Rattle.order.proofs.Lists.{one_most}
-use Rattle.order.proofs.Order.{tally}
-use Rattle.leads.proofs.Laws.{below_x, below_y, bar_most, end_most, corner_test, counted_corners}
-use borrow.Author.Rules.{rules}
+use Rattle.leads.proofs.Laws.{corner_test}
 use Rattle.leads.proofs.count.all_as_near.Given as goal
 
 abbrev pub invariant-loop-i : goal.invariant-loop-i

@@ -1,7 +1,5 @@
 -- `leads::count::reaches` meets its contract: no sum wraps, and the quotient is the top bit. Assumes nothing.
-use native.Mathlib.Omega.{arith}
-use borrow.Author.Rules.{rules}
-use Rattle.leads.proofs.Laws.{sum_most, sum_least, sum_top}
+use Rattle.leads.proofs.Laws.{sum_top}
 use Rattle.leads.proofs.count.reaches.Goals as goal
 
 pub returns : goal.returns

@@ -1,8 +1,5 @@
 -- `leads::count::worst_end` meets its contract: the mask takes the whole length or nothing of it. Assumes nothing.
 use native.Mathlib.Omega.{arith}
-use Prim.Native.Nat.{◌+◌, ◌/◌}
-use lib.Bits.{and_le_l}
-use borrow.Author.Rules.{rules}
 use Rattle.leads.proofs.Laws.{masked}
 use Rattle.leads.proofs.count.worst_end.Goals as goal
 

@@ -1,6 +1,5 @@
 -- `leads::row::bar` meets its contract: a squared distance on the grid and 2²² for each step fit in a word. Assumes nothing.
 use native.Mathlib.Omega.{arith}
-use borrow.Author.Rules.{rules}
 use Rattle.grid.proofs.Rects.{dist_most}
 use Rattle.leads.proofs.row.bar.Goals as goal
 

@@ -1,8 +1,7 @@
 -- `listing::hand::hand_over` meets its contract: each turn appends the next record. Assumes nothing.
 use mathlib.Core.Path.{ap, refl, ◌∙◌}
 use native.Mathlib.Omega.{arith}
-use mathlib.Core.List.{List}
-use lib.ListN.{length, set, length-set}
+use lib.ListN.{set}
 use Rattle.record.specs.declared.Candidate.{Candidate}
 use Rattle.listing.proofs.Laid.{hand_start, hand_step}
 use Rattle.listing.proofs.hand.hand_over.Goals as goal
@@ -13,11 +12,10 @@ loop-i-init c = (omega arith, refl, hand_start _ _ _ _ _)
 pub loop-i-preserved : goal.loop-i-preserved
 loop-i-preserved c =
     let a = c.args in
-    let l = c.loop-i in
-    (
+    let l = c.loop-i in (
       omega arith,
       c.append.auto.list ∙ l.invariant.1,
       c.append.ensures
-      ∙ ap (λ (r : Candidate). set l.list l.i r) c.candidate_at-c.ensures
-      ∙ hand_step _ a.numbers.now a.xs.now a.ys.now l.i a.list.now l.list (omega arith) l.invariant.2,
+          ∙ ap (λ (r : Candidate). set l.list l.i r) c.candidate_at-c.ensures
+          ∙ hand_step _ a.numbers.now a.xs.now a.ys.now l.i a.list.now l.list (omega arith) l.invariant.2,
     )

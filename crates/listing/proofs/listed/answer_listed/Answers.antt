@@ -5,9 +5,6 @@ use Prim.Native.Nat.{ℕ}
 use mathlib.Core.Path.{◌≡◌, sym, subst}
 use mathlib.Core.List.{List}
 use lib.ListN.{length}
-use lib.IntN.{ℤ}
-use mir.Syntax.{w32}
-use mir.Val.{to_z, of_z}
 use Rattle.grid.specs.Site.{Site}
 use Rattle.grid.proofs.Site.{SiteOnGrid, site_passed}
 use Rattle.table.specs.Words.{Words, points_of}

@@ -6,7 +6,6 @@ use Rattle.limits.specs.Limits.{no_such_number, off_grid}
 use Rattle.refusals.specs.Refusals.{is_enrolled}
 use Rattle.limits.proofs.CallTests.{one_passed, two_passed}
 use Rattle.refusals.proofs.CallOrder.{enrol_3, enrol_4, enrol_6, enrol_7, enrol_0}
-use borrow.Author.Rules.{rules}
 use Rattle.refusals.proofs.enrolling.enrol_given.Goals as goal
 
 pub returns-then-no_such_number : goal.returns-then-no_such_number

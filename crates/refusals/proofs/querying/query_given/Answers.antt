@@ -9,7 +9,6 @@ use Rattle.table.specs.Words.{points_of}
 use Rattle.limits.specs.Limits.{off_grid, no_such_k}
 use Rattle.limits.proofs.CallTests.{one_passed, two_passed}
 use Rattle.refusals.proofs.QueryOrder.{answers_told, query_4, query_5, query_9, query_last}
-use borrow.Author.Rules.{rules}
 use Rattle.refusals.proofs.querying.query_given.Goals as goal
 
 pub returns-then-off_grid : goal.returns-then-off_grid

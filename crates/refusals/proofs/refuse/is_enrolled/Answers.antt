@@ -5,7 +5,6 @@ use Rattle.order.specs.Lists.{has}
 use Rattle.naming.proofs.Standing.{somewhere}
 use Rattle.refusals.specs.Refusals.{numbers_of}
 use Rattle.refusals.proofs.CallNumbers.{enrolled_not, enrolled_is}
-use borrow.Author.Rules.{rules}
 use Rattle.refusals.proofs.refuse.is_enrolled.Goals as goal
 
 pub returns-in_default : goal.returns-in_default

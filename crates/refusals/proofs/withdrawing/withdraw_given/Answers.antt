@@ -1,11 +1,9 @@
 -- `withdrawing::withdraw_given` meets its contract: the first line that holds is given. Assumes nothing.
 use mathlib.Core.Path.{sym, ◌∙◌}
-use borrow.Author.Tests.{not-true, not-false}
 use Rattle.limits.specs.Limits.{no_such_number}
 use Rattle.refusals.specs.Refusals.{is_enrolled}
 use Rattle.limits.proofs.CallTests.{one_passed}
 use Rattle.refusals.proofs.CallOrder.{withdraw_3, withdraw_8, withdraw_0}
-use borrow.Author.Rules.{rules}
 use Rattle.refusals.proofs.withdrawing.withdraw_given.Goals as goal
 
 pub returns-then-no_such_number : goal.returns-then-no_such_number

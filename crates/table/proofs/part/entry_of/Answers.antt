@@ -1,5 +1,4 @@
 -- `part::entry_of` meets its contract: each field is the word that its read ensures. Assumes nothing.
-use borrow.Author.Rules.{rules}
 use Rattle.table.specs.Page.{entry_of}
 use Rattle.table.proofs.Slots.{entry_fields}
 use Rattle.table.proofs.part.entry_of.Goals as goal

@@ -1,11 +1,8 @@
 -- `part::free_part` meets its contract. The invariant: the first `at` words are those of a free slot. Assumes nothing.
-use Prim.Native.Nat.{◌+◌, ◌-◌, ◌≤◌}
-use mathlib.Core.Path.{◌≡◌, ap, ◌∙◌}
+use Prim.Native.Nat.{◌+◌}
+use mathlib.Core.Path.{ap, ◌∙◌}
 use native.Mathlib.Omega.{arith}
-use borrow.Author.Rules.{rules}
-use lib.ListN.{length, take}
-use Rattle.figures.specs.Figures.{WIDTH}
-use Rattle.table.specs.Page.{free_words}
+use lib.ListN.{take}
 use Rattle.table.proofs.Parts.{free_first, free_step, free_all}
 use Rattle.table.proofs.part.free_part.Goals as goal
 

@@ -1,12 +1,9 @@
 -- `part::free_part` meets its contract. The invariant: the first `at` words are those of a free slot. Assumes nothing.
-use Prim.Native.Nat.{◌+◌, ◌-◌, ◌≤◌}
-use mathlib.Core.Path.{◌≡◌, ap, ◌∙◌}
-use native.Mathlib.Omega.{arith}
-use borrow.Author.Rules.{rules}
+use Prim.Native.Nat.{◌-◌, ◌≤◌}
+use mathlib.Core.Path.{◌≡◌}
 use lib.ListN.{length, take}
 use Rattle.figures.specs.Figures.{WIDTH}
 use Rattle.table.specs.Page.{free_words}
-use Rattle.table.proofs.Parts.{free_first, free_step, free_all}
 use Rattle.table.proofs.part.free_part.Given as goal
 
 abbrev pub invariant-loop-at : goal.invariant-loop-at

@@ -1,14 +1,12 @@
 -- `part::node_of` meets its contract. The invariant: the first `i` entries have been read. Assumes nothing.
-use Prim.Native.Nat.{ℕ, ◌-◌, ◌≤◌}
-use mathlib.Core.Path.{◌≡◌, refl, sym, ap, ◌∙◌}
+use Prim.Native.Nat.{ℕ}
+use mathlib.Core.Path.{◌≡◌, sym, ap, ◌∙◌}
 use mathlib.Core.List.{map}
 use native.Mathlib.Omega.{arith}
-use borrow.Author.Rules.{rules}
-use lib.ListN.{length, take, length-set, length-map}
+use lib.ListN.{take, length-set, length-map}
 use Rattle.order.specs.Order.{up_from}
 use Rattle.order.proofs.Order.{up_length}
 use Rattle.table.specs.Page.{entry_of, filled, page_of}
-use Rattle.table.proofs.Nodes.{full}
 use Rattle.table.proofs.Parts.{read_step}
 use Rattle.table.proofs.part.node_of.Goals as goal
 

@@ -6,7 +6,6 @@ use Rattle.words.specs.Word.{word_of}
 use Rattle.figures.specs.Figures.{ENTRY}
 use Rattle.table.specs.Page.{entry_words}
 use Rattle.table.proofs.Placed.{five}
-use borrow.Author.Rules.{rules}
 use Rattle.table.proofs.part.put_entry.Goals as goal
 
 pub returns : goal.returns

@@ -1,17 +1,10 @@
 -- `part::put_node` meets its contract. The invariant: the first `i` entries have been written over a free slot's words. Assumes nothing.
 use Prim.Native.Nat.{◌-◌, ◌≤◌}
-use mathlib.Core.Path.{◌≡◌, sym}
-use native.Mathlib.Omega.{arith}
-use borrow.Author.Rules.{rules}
-use lib.ListN.{length, get_or, take}
-use lib.Seq.{get_or-take}
-use Rattle.order.proofs.Lists.{all_at}
+use mathlib.Core.Path.{◌≡◌}
+use lib.ListN.{length, take}
 use Rattle.figures.specs.Figures.{WIDTH}
 use Rattle.table.specs.Words.{placed}
-use Rattle.table.specs.Page.{held, blank_entry, EntryFits, entries_words}
-use Rattle.table.proofs.Nodes.{full, held_length}
-use Rattle.table.proofs.Placed.{placed_none}
-use Rattle.table.proofs.Parts.{write_step, write_all}
+use Rattle.table.specs.Page.{entries_words}
 use Rattle.table.proofs.part.put_node.Given as goal
 
 abbrev pub invariant-loop-i : goal.invariant-loop-i

@@ -1,5 +1,4 @@
 -- `slot::count_at` meets its contract: the slot's part is lent. Assumes nothing.
-use borrow.Author.Rules.{rules}
 use mathlib.Core.Path.{sym, ap, ◌∙◌}
 use Rattle.table.specs.Page.{filled}
 use Rattle.table.proofs.Parts.{lent_part}

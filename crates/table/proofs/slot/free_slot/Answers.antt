@@ -1,5 +1,4 @@
 -- `slot::free_slot` meets its contract: the slot's part is lent, and comes back with a free slot's words. Assumes nothing.
-use borrow.Author.Rules.{rules}
 use Rattle.table.specs.Page.{free_words}
 use Rattle.table.specs.Slots.{freed}
 use Rattle.table.proofs.Parts.{back_part}

@@ -1,5 +1,4 @@
 -- `slot::is_free` meets its contract: the slot's part is lent. Assumes nothing.
-use borrow.Author.Rules.{rules}
 use mathlib.Core.Path.{ap, ◌∙◌}
 use Rattle.table.specs.Words.{Words, word, is_minus_one}
 use Rattle.table.specs.Slots.{is_free}

@@ -1,11 +1,6 @@
 -- `slot::lowest_free` meets its contract. The invariant: all slots below are used. Assumes nothing.
-use Prim.Native.Nat.{ℕ, ◌-◌, ◌≤◌, ◌<◌}
-use mathlib.Core.Path.{◌≡◌, sym, ◌∙◌}
-use mathlib.Core.Bool.{false}
+use mathlib.Core.Path.{sym, ◌∙◌}
 use native.Mathlib.Omega.{arith}
-use Rattle.figures.specs.Figures.{SLOTS}
-use Rattle.table.specs.Slots.{is_free}
-use Rattle.table.proofs.Parts.{below_more}
 use Rattle.table.proofs.Slots.{lowest_only}
 use Rattle.table.proofs.slot.lowest_free.Goals as goal
 

@@ -1,12 +1,9 @@
 -- `slot::lowest_free` meets its contract. The invariant: all slots below are used. Assumes nothing.
 use Prim.Native.Nat.{ℕ, ◌-◌, ◌≤◌, ◌<◌}
-use mathlib.Core.Path.{◌≡◌, sym, ◌∙◌}
+use mathlib.Core.Path.{◌≡◌}
 use mathlib.Core.Bool.{false}
-use native.Mathlib.Omega.{arith}
 use Rattle.figures.specs.Figures.{SLOTS}
 use Rattle.table.specs.Slots.{is_free}
-use Rattle.table.proofs.Parts.{below_more}
-use Rattle.table.proofs.Slots.{lowest_only}
 use Rattle.table.proofs.slot.lowest_free.Given as goal
 
 abbrev pub invariant-loop-slot : goal.invariant-loop-slot

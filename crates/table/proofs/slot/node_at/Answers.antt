@@ -1,5 +1,4 @@
 -- `slot::node_at` meets its contract: the slot's part is lent. Assumes nothing.
-use borrow.Author.Rules.{rules}
 use Rattle.table.specs.Slots.{page_at}
 use Rattle.table.proofs.Parts.{lent_part}
 use Rattle.table.proofs.slot.node_at.Goals as goal

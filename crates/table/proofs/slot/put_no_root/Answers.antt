@@ -1,5 +1,4 @@
 -- `slot::put_no_root` meets its contract: those steps are the word −1. Assumes nothing.
-use borrow.Author.Rules.{rules}
 use mathlib.Core.Path.{ap, ◌∙◌}
 use lib.ListN.{set}
 use Rattle.table.proofs.Parts.{none_word}

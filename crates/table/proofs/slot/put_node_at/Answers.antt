@@ -1,5 +1,4 @@
 -- `slot::put_node_at` meets its contract: the slot's part is lent, and comes back with the node's words. Assumes nothing.
-use borrow.Author.Rules.{rules}
 use Rattle.table.specs.Page.{shown, page_words}
 use Rattle.table.specs.Slots.{put_page}
 use Rattle.table.proofs.Parts.{back_part}

@@ -1,11 +1,9 @@
 -- `vetting::answering::insert` meets its contract. The loop's invariant: to insert from here on gives what the contract asks. Assumes nothing.
-use Prim.Native.Nat.{◌+◌, ◌-◌, ◌≤◌, ◌<◌}
+use Prim.Native.Nat.{◌+◌, ◌≤◌, ◌<◌}
 use native.Mathlib.Omega.{arith}
-use mathlib.Core.Path.{◌≡◌, ◌∙◌}
-use mathlib.Core.Logic.{⊎_elim}
-use lib.ListN.{length, get_or, length-set}
-use borrow.Author.Rules.{rules}
-use Rattle.vetting.proofs.Inserting.{gone, stop, step}
+use mathlib.Core.Path.{◌∙◌}
+use lib.ListN.{get_or, length-set}
+use Rattle.vetting.proofs.Inserting.{stop, step}
 use Rattle.vetting.proofs.answering.insert.Goals as goal
 
 pub loop-here-preserved : goal.loop-here-preserved

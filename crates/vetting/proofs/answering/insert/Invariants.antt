@@ -1,11 +1,8 @@
 -- `vetting::answering::insert` meets its contract. The loop's invariant: to insert from here on gives what the contract asks. Assumes nothing.
-use Prim.Native.Nat.{◌+◌, ◌-◌, ◌≤◌, ◌<◌}
-use native.Mathlib.Omega.{arith}
-use mathlib.Core.Path.{◌≡◌, ◌∙◌}
-use mathlib.Core.Logic.{⊎_elim}
-use lib.ListN.{length, get_or, length-set}
-use borrow.Author.Rules.{rules}
-use Rattle.vetting.proofs.Inserting.{gone, stop, step}
+use Prim.Native.Nat.{◌-◌, ◌≤◌, ◌<◌}
+use mathlib.Core.Path.{◌≡◌}
+use lib.ListN.{length}
+use Rattle.vetting.proofs.Inserting.{gone}
 use Rattle.vetting.proofs.answering.insert.Given as goal
 
 abbrev pub invariant-loop-here : goal.invariant-loop-here

@@ -1,8 +1,8 @@
 -- `vetting::answering::put_rising` meets its contract. The loop's invariant: the front of the answer list is filled from its end with the numbers from `i` on. Assumes nothing.
-use Prim.Native.Nat.{◌+◌, ◌-◌, ◌≤◌}
+use Prim.Native.Nat.{◌+◌, ◌-◌}
 use native.Mathlib.Omega.{arith}
 use mathlib.Core.Path.{◌≡◌}
-use Rattle.vetting.proofs.Listing.{Filled, fill_begin, fill_next, fill_end}
+use Rattle.vetting.proofs.Listing.{Filled, fill_begin, fill_next}
 use Rattle.vetting.proofs.answering.put_rising.Goals as goal
 
 pub loop-i-init : goal.loop-i-init

@@ -1,8 +1,6 @@
 -- `vetting::answering::put_rising` meets its contract. The loop's invariant: the front of the answer list is filled from its end with the numbers from `i` on. Assumes nothing.
-use Prim.Native.Nat.{◌+◌, ◌-◌, ◌≤◌}
-use native.Mathlib.Omega.{arith}
-use mathlib.Core.Path.{◌≡◌}
-use Rattle.vetting.proofs.Listing.{Filled, fill_begin, fill_next, fill_end}
+use Prim.Native.Nat.{◌≤◌}
+use Rattle.vetting.proofs.Listing.{Filled}
 use Rattle.vetting.proofs.answering.put_rising.Given as goal
 
 abbrev pub invariant-loop-i : goal.invariant-loop-i

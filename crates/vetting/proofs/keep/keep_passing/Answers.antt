@@ -1,12 +1,9 @@
 -- `vetting::keep::keep_passing` meets its contract. The loop's invariant: the numbers of those of the first `i` candidates that pass stand at the front of `kept`. The measure is what is left of the candidates.
 -- Assumes nothing.
-use Prim.Native.Nat.{◌≤◌, ◌-◌}
 use native.Mathlib.Omega.{arith}
 use mathlib.Core.Path.{◌≡◌}
-use borrow.Author.Rules.{rules}
-use Rattle.filter.specs.Rows.{rows, listed}
 use Rattle.filter.proofs.Rows.{kept_standing}
-use Rattle.vetting.proofs.Passed.{Numbered, numbered_none, crowded_at, numbered_at, numbered_all}
+use Rattle.vetting.proofs.Passed.{numbered_none, crowded_at, numbered_at, numbered_all}
 use Rattle.vetting.proofs.keep.keep_passing.Goals as goal
 
 pub loop-i-init : goal.loop-i-init
@@ -38,8 +35,7 @@ noted-n-requires c =
 
 pub loop-i-preserved : goal.loop-i-preserved
 loop-i-preserved c =
-    let r = c.noted-n in
-    (
+    let r = c.noted-n in (
       omega arith,
       numbered_at c.requires c.loop-i.i (omega arith) _ c.requires.places _ _ c.loop-i.invariant.1 _ _ c.place_at-p.ensures c.square_to.ensures _ _ r.ensures.0 r.ensures.1,
     )

@@ -1,12 +1,8 @@
 -- `vetting::keep::keep_passing` meets its contract. The loop's invariant: the numbers of those of the first `i` candidates that pass stand at the front of `kept`. The measure is what is left of the candidates.
 -- Assumes nothing.
 use Prim.Native.Nat.{◌≤◌, ◌-◌}
-use native.Mathlib.Omega.{arith}
-use mathlib.Core.Path.{◌≡◌}
-use borrow.Author.Rules.{rules}
 use Rattle.filter.specs.Rows.{rows, listed}
-use Rattle.filter.proofs.Rows.{kept_standing}
-use Rattle.vetting.proofs.Passed.{Numbered, numbered_none, crowded_at, numbered_at, numbered_all}
+use Rattle.vetting.proofs.Passed.{Numbered}
 use Rattle.vetting.proofs.keep.keep_passing.Given as goal
 
 abbrev pub invariant-loop-i : goal.invariant-loop-i

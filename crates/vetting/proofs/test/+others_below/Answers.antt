@@ -1,21 +1,16 @@
 -- `vetting::test::others_below` meets its contract, by recursion on the level. The loop's invariant: `found` counts those below the first `i` children, `most` at most. Assumes nothing.
-use Prim.Native.Nat.{ℕ, ◌+◌, ◌-◌, ◌≤◌, ◌<◌, min}
+use Prim.Native.Nat.{ℕ, ◌+◌, ◌-◌, ◌<◌, min}
 use native.Mathlib.Omega.{arith}
 use mathlib.Core.Path.{◌≡◌, sym, ◌∙◌}
 use mathlib.Core.Bool.{false}
-use mathlib.Core.List.{List}
 use lib.ListN.{length}
-use borrow.Author.Rules.{rules}
-use borrow.Author.Tests.{not-true}
 use Rattle.grid.specs.Place.{least_square}
 use Rattle.grid.specs.AsNear.{as_near}
 use Rattle.order.specs.Lists.{count as count_of, join}
-use Rattle.table.specs.declared.node.Entry.{Entry}
-use Rattle.table.specs.Words.{Words}
 use Rattle.table.specs.Page.{blank_entry}
 use Rattle.table.specs.Slots.{entries_at}
 use Rattle.vetting.specs.Test.{other_as_near, below}
-use Rattle.filter.proofs.NodeTurns.{passable_slot, passable_zero, IsChild}
+use Rattle.filter.proofs.NodeTurns.{IsChild}
 use Rattle.vetting.proofs.Below.{SoFar, sofar_next, sofar_enough, sofar_all, box_none, below_zero, below_above, Box, child_at_lem}
 use Rattle.vetting.proofs.test.+others_below.Invariants.{under}
 use Rattle.vetting.proofs.test.+others_below.Goals as goal

@@ -1,8 +1,6 @@
 -- `vetting::test::is_other_as_near` meets its contract: each way out has one side of the test. Assumes nothing.
 use borrow.Author.Tests.{eq-eqb, ne_eqb}
-use Rattle.rules.proofs.Reading.{point}
 use Rattle.vetting.specs.Test.{other_as_near}
-use borrow.Author.Rules.{rules}
 use Rattle.vetting.proofs.test.is_other_as_near.Goals as goal
 
 pub returns-then-other-number : goal.returns-then-other-number

@@ -1,18 +1,13 @@
 -- `vetting::test::others_in` meets its contract. The loop's invariant: `found` counts those of the first `i` entries, `most` at most. Assumes nothing.
-use Prim.Native.Nat.{ℕ, ◌+◌, ◌-◌, ◌≤◌, ◌<◌, min}
+use Prim.Native.Nat.{ℕ, ◌+◌, ◌-◌, ◌<◌, min}
 use native.Mathlib.Omega.{arith}
 use mathlib.Core.Path.{◌≡◌, ap, ◌∙◌}
 use mathlib.Core.Bool.{Bool, true, false}
-use mathlib.Core.Logic.{⊎_elim}
-use mathlib.Core.List.{List, [], ◌∷◌}
 use lib.ListN.{length, get_or}
-use borrow.Author.Rules.{rules}
 use Rattle.order.specs.Lists.{one, count as count_of}
-use Rattle.order.proofs.Lists.{join_one, all_at}
-use Rattle.table.specs.declared.node.Entry.{Entry}
+use Rattle.order.proofs.Lists.{join_one}
 use Rattle.table.specs.Page.{blank_entry}
 use Rattle.table.specs.Slots.{entries_at}
-use Rattle.table.specs.Stations.{is_point}
 use Rattle.vetting.specs.Test.{other_as_near}
 use Rattle.vetting.proofs.Below.{SoFar, sofar_next, sofar_enough, sofar_all}
 use Rattle.vetting.proofs.test.others_in.Invariants.{alone}
@@ -39,8 +34,8 @@ loop-i-preserved c =
     let next : (b : Bool) → c.is_other_as_near.result ≡ b → (more : ℕ) → more ≡ min (a.most - found) (one b + 0) → SoFar P alone es a.most (i + 1) (found + more) = λ b h more m.
     sofar_next P alone es a.most i found more blank_entry inside (omega (arith, c.if-most-found.false)) c.loop-i.invariant.1 (rw (← tested, h) m) in
     elim c.if-is_other_as_near.branch [
-      then-is_other_as_near w ↦ (omega (arith, c.loop-i-test.true), omega (arith, next true w.if-is_other_as_near.true 1 (omega (arith, c.if-most-found.false))))
-    | else-is_other_as_near w ↦ (omega (arith, c.loop-i-test.true), omega (arith, next false w.if-is_other_as_near.false 0 (omega arith)))
+      | then-is_other_as_near w ↦ (omega (arith, c.loop-i-test.true), omega (arith, next true w.if-is_other_as_near.true 1 (omega (arith, c.if-most-found.false))))
+      | else-is_other_as_near w ↦ (omega (arith, c.loop-i-test.true), omega (arith, next false w.if-is_other_as_near.false 0 (omega arith)))
     ]
 
 pub returns : goal.returns

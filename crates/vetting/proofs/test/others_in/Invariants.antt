@@ -1,20 +1,10 @@
 -- `vetting::test::others_in` meets its contract. The loop's invariant: `found` counts those of the first `i` entries, `most` at most. Assumes nothing.
-use Prim.Native.Nat.{ℕ, ◌+◌, ◌-◌, ◌≤◌, ◌<◌, min}
-use native.Mathlib.Omega.{arith}
-use mathlib.Core.Path.{◌≡◌, ap, ◌∙◌}
-use mathlib.Core.Bool.{Bool, true, false}
-use mathlib.Core.Logic.{⊎_elim}
+use Prim.Native.Nat.{◌-◌, ◌≤◌}
 use mathlib.Core.List.{List, [], ◌∷◌}
-use lib.ListN.{length, get_or}
-use borrow.Author.Rules.{rules}
-use Rattle.order.specs.Lists.{one, count as count_of}
-use Rattle.order.proofs.Lists.{join_one, all_at}
 use Rattle.table.specs.declared.node.Entry.{Entry}
-use Rattle.table.specs.Page.{blank_entry}
 use Rattle.table.specs.Slots.{entries_at}
-use Rattle.table.specs.Stations.{is_point}
 use Rattle.vetting.specs.Test.{other_as_near}
-use Rattle.vetting.proofs.Below.{SoFar, sofar_next, sofar_enough, sofar_all}
+use Rattle.vetting.proofs.Below.{SoFar}
 use Rattle.vetting.proofs.test.others_in.Given as goal
 
 abbrev pub alone : Entry → List Entry

@@ -1,7 +1,6 @@
 -- `vetting::test::passes` meets its contract: from the root down, the points are those of all leaves. Assumes nothing.
 use native.Mathlib.Omega.{arith}
 use mathlib.Core.Path.{◌≡◌, refl, sym, ◌∙◌}
-use borrow.Author.Rules.{rules}
 use Rattle.table.specs.Words.{points_of}
 use Rattle.table.specs.Slots.{level_at}
 use Rattle.filter.proofs.NodeTurns.{passable_slot}

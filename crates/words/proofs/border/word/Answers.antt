@@ -1,7 +1,6 @@
 -- `words::border::word` meets its contract: the laws of `proofs/Machine.antt` say what the machine reads back at each step. Assumes nothing.
-use borrow.Author.Rules.{rules}
 use native.Mathlib.Omega.{arith}
-use Rattle.words.proofs.Machine.{diff_fits, diff_word, word_back}
+use Rattle.words.proofs.Machine.{word_back}
 use Rattle.words.proofs.border.word.Goals as goal
 
 pub returns : goal.returns

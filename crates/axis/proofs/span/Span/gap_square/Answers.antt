@@ -2,9 +2,7 @@
 use mathlib.Core.Path.{◌≡◌, ap}
 use Prim.Native.Nat.{ℕ, ◌+◌, ◌*◌}
 use native.Mathlib.Omega.{arith}
-use borrow.Author.Rules.{rules}
 use Rattle.axis.specs.Axis.{gap}
-use Rattle.axis.proofs.Axis.{gap_square_most}
 use Rattle.axis.proofs.span.Span.gap_square.Goals as goal
 
 pub returns : goal.returns

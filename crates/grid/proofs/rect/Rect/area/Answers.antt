@@ -1,8 +1,5 @@
 -- `grid::rect::Rect::area` meets its contract: two sides of at most two million steps have a product that fits. Assumes nothing.
-use native.Mathlib.Omega.{arith}
-use borrow.Author.Rules.{rules}
 use Rattle.grid.specs.Place.{area_of}
-use Rattle.grid.proofs.Rects.{area_most}
 use Rattle.grid.proofs.rect.Rect.area.Goals as goal
 
 pub returns : goal.returns

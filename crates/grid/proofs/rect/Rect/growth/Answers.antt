@@ -1,9 +1,7 @@
 -- `grid::rect::Rect::growth` meets its contract: the grown rectangle is on the grid too, so its area is exact. Assumes nothing.
 use mathlib.Core.Path.{ap, ◌∙◌}
 use native.Mathlib.Omega.{arith}
-use borrow.Author.Rules.{rules}
 use Rattle.grid.specs.Place.{area_of, growth_of}
-use Rattle.grid.proofs.Rects.{grown_grid}
 use Rattle.grid.proofs.rect.Rect.growth.Goals as goal
 
 pub returns : goal.returns

@@ -1,5 +1,4 @@
 -- `grid::rect::Rect::longer` meets its contract: the test on the two lengths is the definition's. Assumes nothing.
-use borrow.Author.Rules.{rules}
 use borrow.Author.Tests.{lt-ltb, le-ltb}
 use native.Mathlib.Omega.{arith}
 use Rattle.axis.specs.Axis.{span_length}

@@ -1,5 +1,4 @@
 -- `table::node::Node::cover` meets its contract. The invariant: `all` covers the first k entries. Assumes nothing.
-use Prim.Native.Nat.{◌-◌, ◌≤◌}
 use mathlib.Core.Path.{◌≡◌, sym, ap, ◌∙◌}
 use native.Mathlib.Omega.{arith}
 use lib.ListN.{take}

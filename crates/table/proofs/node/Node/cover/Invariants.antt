@@ -1,11 +1,8 @@
 -- `table::node::Node::cover` meets its contract. The invariant: `all` covers the first k entries. Assumes nothing.
 use Prim.Native.Nat.{◌-◌, ◌≤◌}
-use mathlib.Core.Path.{◌≡◌, sym, ap, ◌∙◌}
-use native.Mathlib.Omega.{arith}
+use mathlib.Core.Path.{◌≡◌}
 use lib.ListN.{take}
-use Rattle.table.specs.Page.{cover_of, blank_entry}
-use Rattle.table.proofs.Nodes.{full}
-use Rattle.table.proofs.Cover.{cover_first, cover_step}
+use Rattle.table.specs.Page.{cover_of}
 use Rattle.table.proofs.node.Node.cover.Given as goal
 
 abbrev pub invariant-loop-k : goal.invariant-loop-k

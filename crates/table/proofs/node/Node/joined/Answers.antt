@@ -1,11 +1,10 @@
 -- `table::node::Node::joined` meets its contract. The invariant: the first k entries of the other have been copied behind this node's own. Assumes nothing.
-use Prim.Native.Nat.{◌+◌, ◌-◌, ◌≤◌}
-use mathlib.Core.Path.{◌≡◌, refl}
+use Prim.Native.Nat.{◌+◌}
+use mathlib.Core.Path.{refl}
 use native.Mathlib.Omega.{arith}
 use lib.ListN.{get_or}
-use lib.Seq.{paste, paste-zero}
 use Rattle.table.specs.Page.{blank_entry}
-use Rattle.table.proofs.Nodes.{full, copy_more, copy_shows}
+use Rattle.table.proofs.Nodes.{full, copy_more}
 use Rattle.table.proofs.node.Node.joined.Goals as goal
 
 pub loop-k-preserved : goal.loop-k-preserved

@@ -1,11 +1,7 @@
 -- `table::node::Node::joined` meets its contract. The invariant: the first k entries of the other have been copied behind this node's own. Assumes nothing.
-use Prim.Native.Nat.{◌+◌, ◌-◌, ◌≤◌}
-use mathlib.Core.Path.{◌≡◌, refl}
-use native.Mathlib.Omega.{arith}
-use lib.ListN.{get_or}
-use lib.Seq.{paste, paste-zero}
-use Rattle.table.specs.Page.{blank_entry}
-use Rattle.table.proofs.Nodes.{full, copy_more, copy_shows}
+use Prim.Native.Nat.{◌-◌, ◌≤◌}
+use mathlib.Core.Path.{◌≡◌}
+use lib.Seq.{paste}
 use Rattle.table.proofs.node.Node.joined.Given as goal
 
 abbrev pub invariant-loop-k : goal.invariant-loop-k

@@ -1,5 +1,4 @@
 -- `table::node::Node::replaced` meets its contract: a store below the number is a store in the entries held. Assumes nothing.
-use borrow.Author.Rules.{rules}
 use Prim.Native.Nat.{◌<◌}
 use mathlib.Core.Path.{refl}
 use native.Mathlib.Omega.{arith}

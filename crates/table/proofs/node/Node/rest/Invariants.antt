@@ -1,11 +1,8 @@
 -- `table::node::Node::rest` meets its contract. The invariant: the entries from k up to `at` have been copied to the front; what stands from `at` on is as it was. Assumes nothing.
-use Prim.Native.Nat.{◌+◌, ◌-◌, ◌≤◌}
-use mathlib.Core.Path.{◌≡◌, refl, ap, ◌∙◌}
-use native.Mathlib.Omega.{arith}
-use lib.ListN.{drop, length-drop}
-use lib.Seq.{paste, paste-zero}
-use Rattle.table.specs.Page.{blank_entry}
-use Rattle.table.proofs.Nodes.{full, move_more, copy_shows, drop_take}
+use Prim.Native.Nat.{◌-◌, ◌≤◌}
+use mathlib.Core.Path.{◌≡◌}
+use lib.ListN.{drop}
+use lib.Seq.{paste}
 use Rattle.table.proofs.node.Node.rest.Given as goal
 
 abbrev pub invariant-loop-at : goal.invariant-loop-at

@@ -1,9 +1,9 @@
 -- `table::node::Node::without` meets its contract. The invariant: the entries behind i, up to k, have been copied one place up; what stands from k on is as it was. Assumes nothing.
-use Prim.Native.Nat.{◌+◌, ◌-◌, ◌≤◌}
-use mathlib.Core.Path.{◌≡◌, refl, ap, ◌∙◌}
+use Prim.Native.Nat.{◌+◌, ◌-◌}
+use mathlib.Core.Path.{◌≡◌}
 use native.Mathlib.Omega.{arith}
 use lib.ListN.{drop, length-drop}
-use lib.Seq.{paste, paste-zero, take-take}
+use lib.Seq.{take-take}
 use Rattle.table.specs.Page.{blank_entry}
 use Rattle.table.proofs.Nodes.{full, move_more, copy_shows, drop_take}
 use Rattle.table.proofs.node.Node.without.Goals as goal
