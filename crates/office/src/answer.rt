@@ -1,10 +1,11 @@
 // Answering a sheet: the clerk fills the output buffer, the buffer is written, and so on to the sheet's end.
-ghost use Rattle.std.specs.Prelude.{◌≤◌, length};
+ghost use Rattle.std.specs.Prelude.{◌≡◌, ◌≤◌, length, true};
+ghost use Rattle.std.specs.Io.KnownBytes.{Appends};
 ghost use Rattle.rules.specs.Rules.{Passes};
 ghost use Rattle.sheet.specs.Bytes.{LONGEST};
 ghost use Rattle.slip.specs.Output.{Laid};
-ghost use Rattle.clerk.specs.Sheet.{too_long_line};
-ghost use Rattle.clerk.specs.Running.{longest_line};
+ghost use Rattle.clerk.specs.Sheet.{too_long_line, sheet_output};
+ghost use Rattle.clerk.specs.Running.{lent, longest_line, rest_output, stand_at};
 
 use clerk::run::run_lines;
 use clerk::start::clear;
@@ -27,6 +28,8 @@ fn answer_lines<W: Write>(
     out: &mut [u8],
 ) -> bool
     requires { Passes table.old × (length sheet.now ≤ LONGEST) × (longest_line (length answers.old) ≤ length out.old) }
+    ensures { result ≡ true → Appends (W.contents output.old) (W.contents output.new)
+        (rest_output sheet.now (stand_at 0 1 (lent table.old answers.old))) }
 {
     let mut at = 0;
     let mut number = 1;
@@ -45,6 +48,7 @@ fn answer_lines<W: Write>(
 // A sheet starts with the empty table and an answer list of 500; the clerk makes the rows that its queries write on, of 500 places each.
 fn answer_all<W: Write>(sheet: &[u8], output: &mut W) -> bool
     requires { length sheet.now ≤ LONGEST }
+    ensures { result ≡ true → Appends (W.contents output.old) (W.contents output.new) (sheet_output sheet.now) }
 {
     let mut table = [0i32; Table::LENGTH];
     let mut answers = [0u32; Table::MOST];
@@ -62,14 +66,18 @@ fn put_too_long(out: &mut [u8]) -> usize
 }
 
 // Of a sheet too long no line is run.
-fn answer_too_long<W: Write>(output: &mut W) -> bool {
+fn answer_too_long<W: Write>(output: &mut W) -> bool
+    ensures { result ≡ true → Appends (W.contents output.old) (W.contents output.new) too_long_line }
+{
     let mut out = [0u8; 44];
     let filled = put_too_long(&mut out);
     write_all(output, &out[..filled])
 }
 
 // Writes what a sheet prints, and says whether every byte of it was taken.
-pub(crate) fn answer<W: Write>(sheet: &[u8], output: &mut W) -> bool {
+pub(crate) fn answer<W: Write>(sheet: &[u8], output: &mut W) -> bool
+    ensures { result ≡ true → Appends (W.contents output.old) (W.contents output.new) (sheet_output sheet.now) }
+{
     if sheet.len() > LONGEST {
         return answer_too_long(output);
     }

@@ -1,9 +1,12 @@
 // The post: all that comes in from a reader, read to its end or until the buffer is full; and what goes out to a writer, whole or not.
-// It promises that no more bytes are counted than the buffer has; a read that fails is told apart from the end of the input. Which bytes the system's read puts there no contract can say.
+// It promises that no more bytes are counted than the buffer has; a read that fails is told apart from the end of the input. Of a reader or a writer whose bytes
+// are known, as one over memory, it promises which bytes come in and that all go out; of the system's own no contract can say that.
 // It stands on std alone.
 #![tactic(auto)]
 
-ghost use Rattle.post.specs.Reading.{Filled};
+ghost use Rattle.std.specs.Prelude.{◌≡◌, true};
+ghost use Rattle.std.specs.Io.KnownBytes.{Appends};
+ghost use Rattle.post.specs.Reading.{Filled, Gave, GaveAll};
 
 use std::io::{Read, Write};
 
@@ -17,7 +20,8 @@ pub enum Reading {
 
 // One read: no bytes at the end of the input.
 fn read_more<R: Read>(reader: &mut R, buffer: &mut [u8]) -> Reading
-    ensures { Filled result buffer.new }
+    ensures filled { Filled result buffer.new }
+    ensures gave { Gave result (R.remaining reader.old) (R.remaining reader.new) buffer.new }
 {
     let Ok(more) = reader.read(buffer) else {
         return Reading::Failed;
@@ -27,7 +31,8 @@ fn read_more<R: Read>(reader: &mut R, buffer: &mut [u8]) -> Reading
 
 // Reads until the input ends or the buffer is full.
 pub fn read_all<R: Read>(reader: &mut R, buffer: &mut [u8]) -> Reading
-    ensures { Filled result buffer.new }
+    ensures filled { Filled result buffer.new }
+    ensures gave { GaveAll result (R.remaining reader.old) (R.remaining reader.new) buffer.new }
 {
     let mut done = 0;
     while done < buffer.len() {
@@ -43,6 +48,8 @@ pub fn read_all<R: Read>(reader: &mut R, buffer: &mut [u8]) -> Reading
 }
 
 // Writes all of the bytes, and says whether each was taken: a write that fails, or takes none, ends it. Of no bytes no write is made.
-pub fn write_all<W: Write>(writer: &mut W, bytes: &[u8]) -> bool {
+pub fn write_all<W: Write>(writer: &mut W, bytes: &[u8]) -> bool
+    ensures { result ≡ true → Appends (W.contents writer.old) (W.contents writer.new) bytes.now }
+{
     writer.write_all(bytes).is_ok() && writer.flush().is_ok()
 }

@@ -1,60 +1,90 @@
 // The registry: a station list is read from one reader, and answered on two writers: the job sheet that it becomes, and the reports of its faulty records.
-// It promises that it is safe on any input, and ends. What the system's read and write move no contract can say; each byte that is handed to a
-// write is the roster's, who promises it.
+// It promises that it is safe on any input, and ends; and of a reader and writers whose bytes are known, as those over memory, that what it read is
+// what it answered: if it says so, the output has gained the roster's job sheet and the errors its reports, and nothing else. What the system's own
+// read and write move no contract can say; each byte that is handed to a write is the roster's, who promises it.
 // It stands on roster (the list) and on post (reading and writing).
 #![tactic(auto)]
 
-ghost use Rattle.std.specs.Prelude.{◌+◌, ◌*◌, ◌≤◌, length};
+ghost use Rattle.std.specs.Prelude.{◌≡◌, ◌+◌, ◌*◌, ◌≤◌, length, true};
+ghost use Rattle.std.specs.Io.KnownBytes.{Appends};
 ghost use Rattle.sheet.specs.Bytes.{LONGEST};
+ghost use Rattle.registry.specs.Answered.{Written, Answered};
 
 use post::{Reading, read_all, write_all};
 use roster::list::{LINES, REPORTS, put_list};
 use sheet::marks::LONGEST;
 use std::io::{Read, Write};
 
-// Writes the job sheet and the reports of a list. The reports come first, so that a write that fails is told behind them.
+// Writes the reports. It says whether each byte was taken; if not, that is told behind them.
+fn write_reports<E: Write>(errors: &mut E, reports: &[u8]) -> bool
+    ensures { result ≡ true → Appends (E.contents errors.old) (E.contents errors.new) reports.now }
+{
+    if write_all(errors, reports) {
+        return true;
+    }
+    write_all(
+        errors,
+        b"stations: the reports cannot be written; they end before the list does\n",
+    );
+    false
+}
+
+// Writes the job sheet. It says whether each byte was taken; if not, that is told.
+fn write_lines<W: Write, E: Write>(output: &mut W, errors: &mut E, lines: &[u8]) -> bool
+    ensures lines { result ≡ true → Appends (W.contents output.old) (W.contents output.new) lines.now }
+    ensures errors { result ≡ true → errors.new ≡ errors.old }
+{
+    if write_all(output, lines) {
+        return true;
+    }
+    write_all(
+        errors,
+        b"stations: the output cannot be written; it ends before the list does\n",
+    );
+    false
+}
+
+// Writes the job sheet and the reports of a list, and says whether each byte was taken. The reports come first, so that a write that fails is told behind them.
 fn write_list<W: Write, E: Write>(
     file: &[u8],
     output: &mut W,
     errors: &mut E,
     lines: &mut [u8],
     reports: &mut [u8],
-)
+) -> bool
     requires { (LONGEST ≤ length lines.old) × (5 * LONGEST + 42 ≤ length reports.old) }
+    ensures { result ≡ true → Written file.now (W.contents output.old) (W.contents output.new)
+        (E.contents errors.old) (E.contents errors.new) }
 {
     let filled = put_list(file, lines, reports);
-    let lined = filled.lines;
-    let told = filled.reports;
-    if !write_all(errors, &reports[..told]) {
-        write_all(
-            errors,
-            b"stations: the reports cannot be written; they end before the list does\n",
-        );
-    }
-    if !write_all(output, &lines[..lined]) {
-        write_all(
-            errors,
-            b"stations: the output cannot be written; it ends before the list does\n",
-        );
-    }
+    let told = write_reports(errors, &reports[..filled.reports]);
+    let lined = write_lines(output, errors, &lines[..filled.lines]);
+    told && lined
 }
 
 // The buffers have room for what any list becomes.
-fn answer<W: Write, E: Write>(file: &[u8], output: &mut W, errors: &mut E) {
+fn answer<W: Write, E: Write>(file: &[u8], output: &mut W, errors: &mut E) -> bool
+    ensures { result ≡ true → Written file.now (W.contents output.old) (W.contents output.new)
+        (E.contents errors.old) (E.contents errors.new) }
+{
     let mut lines = [0u8; LINES];
     let mut reports = [0u8; REPORTS];
-    write_list(file, output, errors, &mut lines, &mut reports);
+    write_list(file, output, errors, &mut lines, &mut reports)
 }
 
-// The program's body. Nothing is written before all is read, so a read that fails leaves no record said as done.
-pub fn run<R: Read, W: Write, E: Write>(input: &mut R, output: &mut W, errors: &mut E) {
+// The program's body, which says whether all was read and written; if not, that is told. Nothing is written before all is read, so a read that fails
+// leaves no record said as done.
+pub fn run<R: Read, W: Write, E: Write>(input: &mut R, output: &mut W, errors: &mut E) -> bool
+    ensures { result ≡ true → Answered (R.remaining input.old) (R.remaining input.new)
+        (W.contents output.old) (W.contents output.new) (E.contents errors.old) (E.contents errors.new) }
+{
     let mut buffer = [0u8; LONGEST + 1];
     let Reading::Done(n) = read_all(input, &mut buffer) else {
         write_all(
             errors,
             b"stations: the list cannot be read; nothing was done\n",
         );
-        return;
+        return false;
     };
-    answer(&buffer[..n], output, errors);
+    answer(&buffer[..n], output, errors)
 }
