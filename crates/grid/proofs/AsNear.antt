@@ -1,4 +1,4 @@
--- The laws of `asNear`, with the half-plane theorem, and the law of the one corner. No other file of the repository, but the proof of `is_as_near`, looks inside `asNear`. Assumes nothing.
+-- The laws of `as_near`, with the half-plane theorem, and the law of the one corner. No other file of the repository, but the proof of `is_as_near`, looks inside `as_near`. Assumes nothing.
 use mathlib.Core.Path.{◌≡◌, refl, sym}
 use mathlib.Core.Logic.{◌⊎◌, inl, inr}
 use mathlib.Core.Bool.{Bool, true, false}

@@ -1,4 +1,4 @@
--- 02 §2: what "as near or nearer" means, and the corner test. Nothing else in the repository looks inside `asNear`.
+-- 02 §2: what "as near or nearer" means, and the corner test. Nothing else in the repository looks inside `as_near`.
 use Rattle.std.specs.Prelude.{ℕ, Bool, ◌&&◌, leb}
 use Rattle.grid.specs.declared.place.Place.{Place}
 use Rattle.grid.specs.declared.rect.Rect.{Rect}

@@ -13,7 +13,7 @@ use borrow.Author.Tests.{ltb-true}
 use Rattle.order.specs.Lists.{every}
 use Rattle.order.proofs.Lists.{by_bool, and_left, and_right}
 use Rattle.table.specs.declared.given.Given.{Given}
-use Rattle.table.specs.declared.given.Given.TheVariants as goal
+use Rattle.table.specs.declared.given.Given.TheVariants as variant
 use Rattle.table.specs.Given.{number_given, if_done}
 use Rattle.limits.proofs.Refused.{if_refused, if_either, given_most}
 use Rattle.sheet.specs.Bytes.{Bytes, FEED}
@@ -90,16 +90,16 @@ pub record Holder (item : Bytes) : Type 0 where
   pub sound : every is_field (number ∷ x ∷ y ∷ name ∷ []) ≡ true
 
 -- a misshapen record is refused
-refused : {A : Type 0} → goal.Misshapen ≡ goal.Done → A
+refused : {A : Type 0} → variant.Misshapen ≡ variant.Done → A
 refused e = absurd (omega (arith, ap number_given e))
 
 -- a number is needed
-asked_number : (r : Read) (next : ℤ → Job) → given_for (with_number r next) ≡ goal.Done → (z : ℤ) × ((r ≡ Number z) × (given_for (next z) ≡ goal.Done))
+asked_number : (r : Read) (next : ℤ → Job) → given_for (with_number r next) ≡ variant.Done → (z : ℤ) × ((r ≡ Number z) × (given_for (next z) ≡ variant.Done))
 asked_number (Number z) next e = (z, (refl, e))
 asked_number NoNumber next e = refused e
 
 holder_of : (item : Bytes) (ps : List Bytes) → parts_of Comma item ≡ ps → every is_field ps ≡ true
-    → given_for (from_fields (map unquoted ps)) ≡ goal.Done → Holder item
+    → given_for (from_fields (map unquoted ps)) ≡ variant.Done → Holder item
 holder_of item [] p s e = refused e
 holder_of item (n ∷ []) p s e = refused e
 holder_of item (n ∷ x ∷ []) p s e = refused e
@@ -121,15 +121,15 @@ holder_of item (n ∷ x ∷ y ∷ name ∷ []) p s e =
     }
 holder_of item (n ∷ x ∷ y ∷ name ∷ z ∷ more) p s e = refused e
 
-pub holder : (item : Bytes) → given_of item ≡ goal.Done → Holder item
+pub holder : (item : Bytes) → given_of item ≡ variant.Done → Holder item
 unfolding given_of asked_by is_record said_by
 holder item e =
-    by_bool (λ t. every is_field (parts_of Comma item) ≡ t → given_for (cond t (from_fields (map unquoted (parts_of Comma item))) Misshapen) ≡ goal.Done → Holder item)
+    by_bool (λ t. every is_field (parts_of Comma item) ≡ t → given_for (cond t (from_fields (map unquoted (parts_of Comma item))) Misshapen) ≡ variant.Done → Holder item)
     (every is_field (parts_of Comma item))
     (λ _ s g. holder_of item (parts_of Comma item) refl s g) (λ _ _ g. refused g) refl e
 
 -- its line: the stretches between the quote marks
-pub line_parts : (item : Bytes) → given_of item ≡ goal.Done
+pub line_parts : (item : Bytes) → given_of item ≡ variant.Done
     → let ps = parts_of Comma item in
     line_for item ≡ as_line (ENROL ∷ tabbed (bare_of (get_or ps 0 []) ∷ bare_of (get_or ps 1 []) ∷ bare_of (get_or ps 2 []) ∷ []))
 unfolding line_for enrol_text said_by
@@ -173,7 +173,7 @@ bare_most field =
     (λ _. omega (arith, length-take (length field - 2) (drop 1 field), length-drop 1 field)) (λ _. omega arith)
 
 -- no more bytes than the record, and two for a line end
-pub stretches_room : (item : Bytes) → given_of item ≡ goal.Done
+pub stretches_room : (item : Bytes) → given_of item ≡ variant.Done
     → let ps = parts_of Comma item in
     length (bare_of (get_or ps 0 [])) + (length (bare_of (get_or ps 1 [])) + length (bare_of (get_or ps 2 []))) + 3 ≤ length item
 stretches_room item e =
@@ -196,20 +196,20 @@ sound_end ps i l = rw (drop_of_length-le ps l)
 -- ---- one record, by what it is given
 
 module _ (item : Bytes) {g : Given} (e : g ≡ given_of item) where
-  pub line_refused : (g ≡ goal.Done → ⊥) → line_for item ≡ []
+  pub line_refused : (g ≡ variant.Done → ⊥) → line_for item ≡ []
   unfolding line_for
   line_refused n = if_refused (given_of item) (λ d. n (e ∙ d)) (as_line (enrol_text (said_by item))) []
 
-  pub report_refused : (number : ℕ) → (g ≡ goal.Done → ⊥) → report_for number item ≡ as_line (report_text number g)
+  pub report_refused : (number : ℕ) → (g ≡ variant.Done → ⊥) → report_for number item ≡ as_line (report_text number g)
   unfolding report_for
   report_refused number n =
       if_refused (given_of item) (λ d. n (e ∙ d)) [] (as_line (report_text number (given_of item))) ∙ ap (λ h. as_line (report_text number h)) (sym e)
 
-  pub report_granted : (number : ℕ) → g ≡ goal.Done → report_for number item ≡ []
+  pub report_granted : (number : ℕ) → g ≡ variant.Done → report_for number item ≡ []
   unfolding report_for
   report_granted number d = rw (sym e ∙ d)
 
-granted_most : (item : Bytes) → given_of item ≡ goal.Done → length (line_for item) ≤ 2 + length item
+granted_most : (item : Bytes) → given_of item ≡ variant.Done → length (line_for item) ≤ 2 + length item
 granted_most item d =
     let ps = parts_of Comma item in
     rw (line_parts item d)
