@@ -8,46 +8,34 @@ use figures::Table;
 use grid::place::Place;
 use table::slot::{count_at, entry_at, level_at};
 
-#[derive(Clone, Copy)]
-pub enum Whereabouts {
-    At(Place),
-    Nowhere,
-}
-
 // In one slot. A free slot has level −1, so it is no leaf.
-fn find_in(table: &[i32], slot: usize, number: usize) -> Whereabouts
+fn find_in(table: &[i32], slot: usize, number: usize) -> Option<Place>
     requires { (length table.now ≡ LENGTH) × (slot < SLOTS) }
     ensures { result ≡ where_in number (leaf_entries table.now slot) }
 {
     if level_at(table, slot) != 0 {
-        return Whereabouts::Nowhere;
+        return None;
     }
-    let count = count_at(table, slot);
-    let mut i = 0;
-    while i < count {
+    for i in 0..count_at(table, slot) {
         let e = entry_at(table, slot, i);
         if e.reference == number {
-            return Whereabouts::At(Place {
+            return Some(Place {
                 x: e.rect.x.low,
                 y: e.rect.y.low,
             });
         }
-        i += 1;
     }
-    Whereabouts::Nowhere
+    None
 }
 
-pub fn find(table: &[i32], number: usize) -> Whereabouts
+pub fn find(table: &[i32], number: usize) -> Option<Place>
     requires { length table.now ≡ LENGTH }
     ensures { result ≡ where_of table.now number }
 {
-    let mut slot = 0;
-    while slot < Table::SLOTS {
-        let here = find_in(table, slot, number);
-        if let Whereabouts::At(_) = here {
-            return here;
+    for slot in 0..Table::SLOTS {
+        if let Some(p) = find_in(table, slot, number) {
+            return Some(p);
         }
-        slot += 1;
     }
-    Whereabouts::Nowhere
+    None
 }

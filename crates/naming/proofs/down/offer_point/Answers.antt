@@ -14,11 +14,11 @@ use Rattle.naming.specs.Holders.{mark_of}
 use Rattle.naming.proofs.Marking.{marks_itself, marks_other}
 use Rattle.naming.proofs.down.offer_point.Goals as goal
 
-pub returns-then-other-number : goal.returns-then-other-number
-returns-then-other-number c =
+pub returns-then-other-holder : goal.returns-then-other-holder
+returns-then-other-holder c =
     let row = c.args.best.now in
     least_row (length row) row refl c.requires.3
-    ∙ ap (λ (ms : List ℕ). least (length row) (ms ++ row)) (sym (marks_itself c.args.number c.args.p c.args.e c.if-other-number.true))
+    ∙ ap (λ (ms : List ℕ). least (length row) (ms ++ row)) (sym (marks_itself c.args.holder.number c.args.holder.place c.args.e c.if-other-holder.true))
 
 pub mark_of-requires : goal.mark_of-requires
 mark_of-requires c =
@@ -33,4 +33,4 @@ returns c =
     let row = c.args.best.now in
     c.offer.ensures
     ∙ ap (λ (mark : ℕ). least (length row) (mark ∷ row)) (c.mark_of.ensures ∙ ap (λ (d : ℕ). mark_of d c.args.e.reference) c.square_to.ensures)
-    ∙ ap (λ (ms : List ℕ). least (length row) (ms ++ row)) (sym (marks_other c.args.number c.args.p c.args.e c.if-other-number.false))
+    ∙ ap (λ (ms : List ℕ). least (length row) (ms ++ row)) (sym (marks_other c.args.holder.number c.args.holder.place c.args.e c.if-other-holder.false))
