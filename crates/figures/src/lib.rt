@@ -35,6 +35,9 @@ impl Table {
     pub const HIGHEST: usize = 9999;
 }
 
+// A table's words.
+pub type Words = [i32; Table::LENGTH];
+
 // The figures as one value.
 #[derive(Clone, Copy)]
 pub struct Figures {
