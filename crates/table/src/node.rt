@@ -108,7 +108,7 @@ impl Node {
     {
         let mut n = self;
         let count = self.count - k;
-        n.entries[..count].copy_from_slice(&self.entries[k..self.count]);
+        n.entries[0..count].copy_from_slice(&self.entries[k..self.count]);
         n.count = count;
         n
     }

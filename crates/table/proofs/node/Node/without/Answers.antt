@@ -1,8 +1,7 @@
 -- `table::node::Node::without` meets its contract: the entries before i stay, and those behind it are copied one place up. Assumes nothing.
-use Prim.Native.Nat.{◌+◌, ◌-◌}
-use mathlib.Core.Path.{◌≡◌, refl, ap}
+use mathlib.Core.Path.{refl, ap}
 use native.Mathlib.Omega.{arith}
-use lib.ListN.{length, take, drop, length-take, length-drop}
+use lib.ListN.{length, take, length-take, length-drop}
 use lib.Seq.{take-take}
 use Rattle.table.specs.declared.node.Entry.{Entry}
 use Rattle.table.proofs.Nodes.{full, runs_show, drop_take}
