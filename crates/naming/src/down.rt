@@ -3,7 +3,7 @@ ghost use Rattle.std.specs.Prelude.{◌≡◌, true, [], ◌∷◌, ◌++◌, �
 ghost use Rattle.grid.specs.Place.{PlaceOnGrid};
 ghost use Rattle.order.specs.Lists.{All, Rises};
 ghost use Rattle.order.specs.Order.{least};
-ghost use Rattle.figures.specs.Figures.{SLOTS, LENGTH};
+ghost use Rattle.figures.specs.Figures.{SLOTS};
 ghost use Rattle.table.specs.Slots.{entries_at};
 ghost use Rattle.table.specs.Stations.{is_point};
 ghost use Rattle.filter.specs.Passable.{Passable};
@@ -12,8 +12,9 @@ ghost use Rattle.naming.specs.Holders.{marks_of};
 
 use crate::best::{is_beyond, mark_of, offer};
 use crate::holder::Holder;
+use figures::Words;
+use filter::candidate::spot_in;
 use filter::nearest::nearest;
-use grid::place::Place;
 use table::node::Entry;
 use table::slot::{count_at, entry_at};
 
@@ -26,16 +27,12 @@ fn offer_point(e: Entry, holder: Holder, best: &mut [u64])
     if other == holder.number {
         return;
     }
-    let c = Place {
-        x: e.rect.x.low,
-        y: e.rect.y.low,
-    };
-    offer(best, mark_of(c.square_to(holder.place), other));
+    offer(best, mark_of(spot_in(e).square_to(holder.place), other));
 }
 
 // The points of a leaf, in any order.
-fn offer_leaf(table: &[i32], slot: usize, holder: Holder, best: &mut [u64])
-    requires table_len { (length table.now ≡ LENGTH) × (slot < SLOTS) × PlaceOnGrid holder.place }
+fn offer_leaf(table: &Words, slot: usize, holder: Holder, best: &mut [u64])
+    requires within { (slot < SLOTS) × PlaceOnGrid holder.place }
     requires all { All (λ e. is_point e ≡ true) (entries_at table.now slot) × (0 < length best.old) × Rises best.old }
     ensures { best.new ≡ least (length best.old) (marks_of holder.number holder.place (entries_at table.now slot) ++ best.old) }
 {
@@ -46,9 +43,9 @@ fn offer_leaf(table: &[i32], slot: usize, holder: Holder, best: &mut [u64])
 }
 
 // All points below a node.
-pub fn offer_below(table: &[i32], slot: usize, level: usize, holder: Holder, best: &mut [u64])
-    requires table_len { (length table.now ≡ LENGTH) × PlaceOnGrid holder.place × Passable level table.now slot × Boxed level table.now slot }
-    requires best_nonzero { (0 < length best.old) × Rises best.old }
+pub fn offer_below(table: &Words, slot: usize, level: usize, holder: Holder, best: &mut [u64])
+    requires passable { PlaceOnGrid holder.place × Passable level table.now slot × Boxed level table.now slot }
+    requires best { (0 < length best.old) × Rises best.old }
     ensures { best.new ≡ least (length best.old) (marks_of holder.number holder.place (below_of level table.now slot) ++ best.old) }
 {
     if level == 0 {

@@ -9,6 +9,7 @@ ghost use Rattle.naming.specs.Named.{Namable, Named};
 use crate::best::BASE;
 use crate::down::offer_below;
 use crate::holder::Holder;
+use figures::Words;
 use table::slot::{level_at, root_of};
 
 // The most names on a card.
@@ -37,7 +38,7 @@ fn put_names(marks: &[u64], list: &mut [u32])
 
 // The names of the best in the tree go to the list if it has room for them; gives back how many there are.
 // The row has a place for each name of the card, with no holder yet. What it has afterwards nobody reads.
-fn put_best(table: &[i32], holder: Holder, best: &mut [u64], list: &mut [u32]) -> usize
+fn put_best(table: &Words, holder: Holder, best: &mut [u64], list: &mut [u32]) -> usize
     requires { Namable table.now holder.number holder.place (length best.old) × (best.old ≡ replicate (length best.old) NONE) }
     ensures { Named table.now holder.number (length best.old) list.old list.new result }
 {
@@ -52,7 +53,7 @@ fn put_best(table: &[i32], holder: Holder, best: &mut [u64], list: &mut [u32]) -
 }
 
 // The card of a holder that is enrolled: its k nearest others.
-pub fn put_card(table: &[i32], holder: Holder, k: usize, list: &mut [u32]) -> usize
+pub fn put_card(table: &Words, holder: Holder, k: usize, list: &mut [u32]) -> usize
     requires { Namable table.now holder.number holder.place k }
     ensures { Named table.now holder.number k list.old list.new result }
 {

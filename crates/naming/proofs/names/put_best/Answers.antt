@@ -34,22 +34,21 @@ level_at-level-requires c =
     let root = c.root_of-root.result in
     -- the table is not empty: it has the station
     let some = not_empty ws t a.holder.number a.holder.place c.requires.0.station in
-    (t.long, passable_slot (level_at ws root) ws root (root_passable ws t.long t.words t.rules some root _ c.root_of-root.ensures refl))
+    passable_slot (level_at ws root) ws root (root_passable ws t.long t.words t.rules some root _ c.root_of-root.ensures refl)
 
-pub offer_below-requires-clause-table_len : goal.offer_below-requires-clause-table_len
-offer_below-requires-clause-table_len c =
+pub offer_below-requires-clause-passable : goal.offer_below-requires-clause-passable
+offer_below-requires-clause-passable c =
     let a = c.args in
     let ws = a.table.now in
     let t = c.requires.0.table in
     let some = not_empty ws t a.holder.number a.holder.place c.requires.0.station in (
-      t.long,
       stands_grid ws t a.holder.number a.holder.place c.requires.0.station,
       root_passable ws t.long t.words t.rules some _ _ c.root_of-root.ensures c.level_at-level.ensures,
       root_boxed ws t.long t.words t.rules some _ _ c.root_of-root.ensures c.level_at-level.ensures,
     )
 
-pub offer_below-requires-clause-best_nonzero : goal.offer_below-requires-clause-best_nonzero
-offer_below-requires-clause-best_nonzero c = (omega (arith, c.requires.0.some), rw c.requires.1 (blank_rises (length c.args.best.now)))
+pub offer_below-requires-clause-best : goal.offer_below-requires-clause-best
+offer_below-requires-clause-best c = (omega (arith, c.requires.0.some), rw c.requires.1 (blank_rises (length c.args.best.now)))
 
 pub slice_bounds-put_names-end : goal.slice_bounds-put_names-end
 slice_bounds-put_names-end c = holders_few _ c.names_in-n.ensures
