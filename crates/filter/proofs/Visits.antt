@@ -16,7 +16,7 @@ use Rattle.table.specs.declared.node.Entry.{Entry}
 use Rattle.filter.specs.declared.seen.Seen.{Seen}
 use Rattle.filter.specs.Walk.{Found, spot_in, point_hidden, box_hidden, with_candidate, visited, entered}
 use Rattle.filter.specs.Rows.{Rows, rows, listed, laid_in, found_in, Room, Kept, Noted, Ready}
-use Rattle.filter.proofs.Rows.{row_add, rows_ext, listed_length, listed_count}
+use Rattle.filter.proofs.RowLaws.{row_add, rows_ext, listed_length, listed_count}
 
 -- nothing new
 pub noted_same : {q : Place} {r : Rows} {s : Seen} → Kept q r s.candidates → Noted q (found_in q r s) r r s

@@ -17,11 +17,9 @@ pub fn nearest(table: &[i32], slot: usize, q: Place) -> [usize; order::MOST]
 {
     let mut marks = [order::NONE; order::MOST];
     let count = count_at(table, slot);
-    let mut i = 0;
-    while i < count {
+    for i in 0..count {
         let e = entry_at(table, slot, i);
         marks[i] = order::mark(e.rect.least_square(q), i);
-        i += 1;
     }
     order::in_order(&marks, count)
 }

@@ -2,7 +2,7 @@
 use native.Mathlib.Omega.{arith}
 use Rattle.rules.proofs.Reading.{point}
 use Rattle.filter.specs.Rows.{rows}
-use Rattle.filter.proofs.Rows.{kept_standing}
+use Rattle.filter.proofs.RowLaws.{kept_standing}
 use Rattle.filter.proofs.Visits.{visit_hidden, visit_room, visit_new}
 use Rattle.filter.proofs.candidate.visit.Goals as goal
 

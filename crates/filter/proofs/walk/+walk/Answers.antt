@@ -9,7 +9,7 @@ use Rattle.table.proofs.Slots.{page_few}
 use Rattle.order.proofs.Lists.{all_then}
 use Rattle.filter.specs.Walk.{entered, walk as walk_of}
 use Rattle.filter.specs.Rows.{rows, found_in}
-use Rattle.filter.proofs.Rows.{kept_standing}
+use Rattle.filter.proofs.RowLaws.{kept_standing}
 use Rattle.filter.proofs.Visits.{noted_same, enter_hidden, enter_open, enter_ready}
 use Rattle.filter.proofs.Turns.{walk_opens}
 use Rattle.filter.proofs.Taken.{taken_below}
