@@ -1,4 +1,4 @@
-// A point's turn: it is discarded, or noted as the next candidate.
+// The turn of a point: it is discarded, or noted as the next candidate.
 ghost use Rattle.std.specs.Prelude.{◌≡◌, true};
 ghost use Rattle.table.specs.Stations.{is_point};
 ghost use Rattle.filter.specs.Walk.{spot_in, visited};
@@ -33,6 +33,6 @@ pub fn visit(e: Entry, q: Place, k: usize, rows: &mut Rows<'_>, seen: Seen) -> S
     rows.note(at, e, q);
     Seen {
         candidates: at + 1,
-        opened: seen.opened,
+        ..seen
     }
 }

@@ -8,5 +8,4 @@ pub mod find;
 pub mod nearest;
 pub mod rows;
 pub mod seen;
-pub mod site;
 pub mod walk;

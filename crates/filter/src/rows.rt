@@ -4,6 +4,7 @@ ghost use Rattle.grid.specs.Place.{PlaceOnGrid};
 ghost use Rattle.leads.specs.Leads.{from_q, bar_of};
 ghost use Rattle.table.specs.Stations.{is_point};
 ghost use Rattle.filter.specs.Walk.{spot_in};
+ghost use Rattle.filter.specs.Rows.{SameLent};
 
 use crate::candidate::spot_in;
 use grid::place::Place;
@@ -22,7 +23,9 @@ pub struct Rows<'a> {
 impl Rows<'_> {
     // As the tests of the walk read them.
     pub fn leads(&self) -> Leads<'_>
-        ensures { (result.xs.now ≡ self.now.xs.now) × (result.ys.now ≡ self.now.ys.now) × (result.bars.now ≡ self.now.bars.now) }
+        ensures xs { result.xs.now ≡ self.now.xs.now }
+        ensures ys { result.ys.now ≡ self.now.ys.now }
+        ensures bars { result.bars.now ≡ self.now.bars.now }
     {
         Leads {
             xs: self.xs,
@@ -39,7 +42,7 @@ impl Rows<'_> {
         ensures x { self.new.xs.now ≡ set self.old.xs.now at (from_q e.rect.x.low q.x) }
         ensures y { self.new.ys.now ≡ set self.old.ys.now at (from_q e.rect.y.low q.y) }
         ensures bar { self.new.bars.now ≡ set self.old.bars.now at (bar_of q (spot_in e)) }
-        ensures lent { (self.new.numbers.ghost_name ≡ self.old.numbers.ghost_name) × (self.new.xs.ghost_name ≡ self.old.xs.ghost_name) × (self.new.ys.ghost_name ≡ self.old.ys.ghost_name) × (self.new.bars.ghost_name ≡ self.old.bars.ghost_name) }
+        ensures lent { SameLent self.old self.new }
     {
         let p = spot_in(e);
         self.numbers[at] = e.reference as u32;

@@ -56,11 +56,9 @@ loop-i-preserved c =
     let es = entries_at a.table.now a.slot in
     let key : Entry → ℕ = λ e. least_square e.rect a.q in
     let square : c.least_square.result ≡ key_at (map key es) l.i =
-    c.least_square.ensures ∙ ap key c.entry_at-e.ensures ∙ sym (map_at key es blank_entry 0 l.i (in_node)) in (
-      omega (arith, c.loop-i-test.true),
-      marked_next (map key es) l.i l.marks c.mark.result l.invariant.1 (omega (arith, c.loop-i-test.true, few))
-          (c.mark.ensures ∙ ap (λ k. mark_of k l.i) square),
-    )
+    c.least_square.ensures ∙ ap key c.entry_at-e.ensures ∙ sym (map_at key es blank_entry 0 l.i (in_node)) in
+    marked_next (map key es) l.i l.marks c.mark.result l.invariant (omega (arith, c.loop-i-test.true, few))
+    (c.mark.ensures ∙ ap (λ k. mark_of k l.i) square)
 
 pub returns : goal.returns
 returns c =
@@ -73,7 +71,7 @@ returns c =
     c.count_at-count.result in
     let all_marked : Marked keys count c.loop-i.marks =
     let e : c.loop-i.i ≡ count = omega (arith, c.loop-i-test.false) in
-    subst (λ n. Marked keys n c.loop-i.marks) e c.loop-i.invariant.1 in
+    subst (λ n. Marked keys n c.loop-i.marks) e c.loop-i.invariant in
     let a = c.args in
     let many : length (keys) ≡ count =
     length-map (entries_at a.table.now a.slot) (λ e. least_square e.rect a.q) ∙ sym c.count_at-count.ensures in
