@@ -10,12 +10,13 @@ ghost use Rattle.filter.specs.Rows.{rows_of, Noted, Room, SameLent};
 use crate::rows::Rows;
 use crate::seen::Seen;
 use crate::walk::walk;
+use figures::Words;
 use grid::place::Place;
 use grid::site::Site;
 use table::slot::{level_at, points_of, root_of};
 
 // From the root down; the empty table has no root to open.
-pub fn find(table: &[i32], q: Site, k: usize, rows: &mut Rows<'_>) -> Seen
+pub fn find(table: &Words, q: Site, k: usize, rows: &mut Rows<'_>) -> Seen
     requires passing { Passing table.now }
     requires q_value { (on_grid q.x ≡ true) × (on_grid q.y ≡ true) }
     requires room { Room (points_of table.now) (rows_of rows.old) }

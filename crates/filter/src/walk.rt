@@ -1,7 +1,7 @@
 // The filter walk: it opens a node, takes the entries nearest first, and calls itself on each child that it opens.
 ghost use Rattle.std.specs.Prelude.{◌≡◌, true, ◌<◌, length};
 ghost use Rattle.order.specs.Lists.{All};
-ghost use Rattle.figures.specs.Figures.{SLOTS, LENGTH};
+ghost use Rattle.figures.specs.Figures.{SLOTS};
 ghost use Rattle.table.specs.Slots.{entries_at};
 ghost use Rattle.table.specs.Stations.{is_point};
 ghost use Rattle.filter.specs.Walk.{each, nearest_first, visited, walk as walk_of};
@@ -12,19 +12,20 @@ use crate::candidate::visit;
 use crate::nearest::nearest;
 use crate::rows::Rows;
 use crate::seen::Seen;
+use figures::Words;
 use grid::place::Place;
 use table::slot::{count_at, entry_at};
 
 // The points of a leaf, nearest first.
 fn visit_leaf(
-    table: &[i32],
+    table: &Words,
     slot: usize,
     q: Place,
     k: usize,
     rows: &mut Rows<'_>,
     seen: Seen,
 ) -> Seen
-    requires table_len { (length table.now ≡ LENGTH) × (slot < SLOTS) × All (λ e. is_point e ≡ true) (entries_at table.now slot) }
+    requires slot_value { (slot < SLOTS) × All (λ e. is_point e ≡ true) (entries_at table.now slot) }
     requires ready { Ready q (each (visited q k) (nearest_first q k (entries_at table.now slot))) (rows_of rows.old) seen }
     ensures went { Went q (each (visited q k) (nearest_first q k (entries_at table.now slot)))
         (rows_of rows.old) seen
@@ -43,7 +44,7 @@ fn visit_leaf(
 
 // The node in a slot, and what is below it.
 pub fn walk(
-    table: &[i32],
+    table: &Words,
     slot: usize,
     level: usize,
     q: Place,
@@ -51,7 +52,7 @@ pub fn walk(
     rows: &mut Rows<'_>,
     seen: Seen,
 ) -> Seen
-    requires table_len { (length table.now ≡ LENGTH) × Passable level table.now slot }
+    requires passable { Passable level table.now slot }
     requires ready { Ready q (walk_of q k level table.now slot) (rows_of rows.old) seen }
     ensures went { Went q (walk_of q k level table.now slot)
         (rows_of rows.old) seen

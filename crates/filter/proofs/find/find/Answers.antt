@@ -21,7 +21,7 @@ level_at-level-requires c =
     let ws = c.args.table.now in
     let p = c.requires.passing in
     let full = some_points ws p.long p.words p.rules (omega (arith, c.points_of.ensures, c.if-points_of-eq0.false)) in
-    (p.long, passable_slot (level_at ws c.root_of-root.result) ws c.root_of-root.result (root_passable ws p.long p.words p.rules full c.root_of-root.result _ c.root_of-root.ensures refl))
+    passable_slot (level_at ws c.root_of-root.result) ws c.root_of-root.result (root_passable ws p.long p.words p.rules full c.root_of-root.result _ c.root_of-root.ensures refl)
 
 pub walk-requires : goal.walk-requires
 walk-requires c =
@@ -31,7 +31,7 @@ walk-requires c =
     let full = some_points ws p.long p.words p.rules (omega (arith, c.points_of.ensures, c.if-points_of-eq0.false)) in
     let grid : SiteOnGrid a.q = record { x = c.requires.q_value.0; y = c.requires.q_value.1 } in
     record {
-      table_len = (p.long, root_passable ws p.long p.words p.rules full _ _ c.root_of-root.ensures c.level_at-level.ensures);
+      passable = root_passable ws p.long p.words p.rules full _ _ c.root_of-root.ensures c.level_at-level.ensures;
       ready = rw c.none-none.ensures
           (root_ready ws p.long p.words p.rules full _ _ c.root_of-root.ensures c.level_at-level.ensures a.q grid a.k _ c.from-place.ensures (rows_of a.rows.now) c.requires.room);
     }

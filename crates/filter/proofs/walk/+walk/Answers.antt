@@ -26,7 +26,7 @@ pub nearest-row-requires-clause-all : goal.nearest-row-requires-clause-all
 nearest-row-requires-clause-all t c =
     let a = c.args in
     all_then (IsChild a.table.now (a.level - 1)) (λ e. RectOnGrid e.rect) (λ e h. h.0.grid) (entries_at a.table.now a.slot)
-    (passable_above a.table.now a.slot a.level (omega arith) c.requires.table_len.1)
+    (passable_above a.table.now a.slot a.level (omega arith) c.requires.passable)
 
 pub loop-i-init : goal.loop-i-init
 loop-i-init t c = (rw c.opening-so_far.ensures (noted_same c.requires.ready.kept), record { numbers = refl; xs = refl; ys = refl; bars = refl })
@@ -41,31 +41,30 @@ pub entry_at-e-requires : goal.entry_at-e-requires
 entry_at-e-requires t c =
     let a = c.args in
     let in_node : c.loop-i.i < length (entries_at a.table.now a.slot) = omega (arith, c.count_at-count.ensures) in (
-      c.requires.table_len.0,
-      passable_slot a.level a.table.now a.slot c.requires.table_len.1,
+      passable_slot a.level a.table.now a.slot c.requires.passable,
       taken_below (entries_at a.table.now a.slot) a.q a.k c.nearest-row.result c.nearest-row.ensures c.loop-i.i in_node,
     )
 
 pub all_as_near-near-requires : goal.all_as_near-near-requires
 all_as_near-near-requires t c =
     let a = c.args in
-    let x = above_turn a.table.now a.slot c.requires.ready (omega arith) c.requires.table_len.1 c.loop-i.i c.nearest-row.ensures (omega (arith, c.count_at-count.ensures)) c.entry_at-e.ensures c.loop-i.invariant.0 in
+    let x = above_turn a.table.now a.slot c.requires.ready (omega arith) c.requires.passable c.loop-i.i c.nearest-row.ensures (omega (arith, c.count_at-count.ensures)) c.entry_at-e.ensures c.loop-i.invariant.0 in
     let l = c.leads.ensures in
     (kept_read l.xs l.ys l.bars x.ready.grid x.kept, x.good.0, x.ready.grid)
 
 pub walk-so_far-requires : goal.walk-so_far-requires
 walk-so_far-requires t c =
     let a = c.args in
-    let x = above_turn a.table.now a.slot c.requires.ready (omega arith) c.requires.table_len.1 c.loop-i.i c.nearest-row.ensures (omega (arith, c.count_at-count.ensures)) c.entry_at-e.ensures c.loop-i.invariant.0 in
+    let x = above_turn a.table.now a.slot c.requires.ready (omega arith) c.requires.passable c.loop-i.i c.nearest-row.ensures (omega (arith, c.count_at-count.ensures)) c.entry_at-e.ensures c.loop-i.invariant.0 in
     let l = c.leads.ensures in (
       omega (arith, c.decreases),
-      ((c.requires.table_len.0, x.good.1), enter_ready c.entry_at-e.result a.q a.k (rows_of c.loop-i.rows) c.loop-i.so_far _ (rw (l.xs, l.ys) at c.all_as_near-near.ensures) (walk_of a.q a.k (a.level - 1) a.table.now) c.if-near-k.true x.ready),
+      (x.good.1, enter_ready c.entry_at-e.result a.q a.k (rows_of c.loop-i.rows) c.loop-i.so_far _ (rw (l.xs, l.ys) at c.all_as_near-near.ensures) (walk_of a.q a.k (a.level - 1) a.table.now) c.if-near-k.true x.ready),
     )
 
 pub loop-i-preserved : goal.loop-i-preserved
 loop-i-preserved t c =
     let a = c.args in
-    let x = above_turn a.table.now a.slot c.requires.ready (omega arith) c.requires.table_len.1 c.loop-i.i c.nearest-row.ensures (omega (arith, c.count_at-count.ensures)) c.entry_at-e.ensures c.loop-i.invariant.0 in
+    let x = above_turn a.table.now a.slot c.requires.ready (omega arith) c.requires.passable c.loop-i.i c.nearest-row.ensures (omega (arith, c.count_at-count.ensures)) c.entry_at-e.ensures c.loop-i.invariant.0 in
     let r = rows_of c.loop-i.rows in
     let opening = walk_of a.q a.k (a.level - 1) a.table.now in
     let l = c.leads.ensures in
