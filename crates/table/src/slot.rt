@@ -19,7 +19,7 @@ fn start(slot: usize) -> usize
 }
 
 // The words of a slot.
-fn part_of(table: &Words, slot: usize) -> &Part
+pub fn part_of(table: &Words, slot: usize) -> &Part
     requires { slot < SLOTS }
     ensures { result.now ≡ part_at table.now slot }
 {
