@@ -16,13 +16,9 @@ fn marks_on(n: Node, axis: Axis) -> [u64; order::MOST]
     ensures marks { Marks n.count result }
     ensures sums { map key_in (take n.count result) ≡ map (λ e. sum_on axis e.rect) (held n) }
 {
-    let count = n.count;
     let mut marks = [order::NONE; order::MOST];
-    let mut k = 0;
-    while k < count {
-        let e = n.entries[k];
-        marks[k] = order::mark(e.rect.sum_on(axis), k);
-        k += 1;
+    for k in 0..n.count {
+        marks[k] = order::mark(n.entries[k].rect.sum_on(axis), k);
     }
     marks
 }
@@ -32,14 +28,9 @@ fn placed_by(n: Node, row: [usize; order::MOST]) -> Node
     requires { (n.count ≤ 10) × All (λ i. i < 10) row }
     ensures { Shows result (page n.level (pick n.entries blank_entry (take n.count row))) }
 {
-    let count = n.count;
     let mut m = n;
-    let mut k = 0;
-    while k < count {
-        let place = row[k];
-        let e = n.entries[place];
-        m.entries[k] = e;
-        k += 1;
+    for k in 0..n.count {
+        m.entries[k] = n.entries[row[k]];
     }
     m
 }

@@ -1,5 +1,5 @@
 -- `change::share::marks_on` meets its contract. The invariant: the sums of the first k entries are marked. Assumes nothing.
-use Prim.Native.Nat.{ℕ, ◌-◌, ◌≤◌}
+use Prim.Native.Nat.{ℕ}
 use mathlib.Core.List.{List, map}
 use Rattle.grid.specs.declared.rect.Axis.{Axis}
 use Rattle.grid.specs.Place.{sum_on}
@@ -12,7 +12,4 @@ abbrev pub sums : Axis → Node → List ℕ
 sums axis n = map (λ e. sum_on axis e.rect) (held n)
 
 abbrev pub invariant-loop-k : goal.invariant-loop-k
-invariant-loop-k l = (l.k ≤ l.count) × Marked (sums l.axis l.n) l.k l.marks
-
-abbrev pub decreases-loop-k : goal.decreases-loop-k
-decreases-loop-k l = l.count - l.k
+invariant-loop-k l = Marked (sums l.axis l.n) l.k l.marks

@@ -18,10 +18,9 @@ loop-k-preserved c =
     let n = length-map row (λ i. get_or es i blank_entry) in
     let f = full c.args.n c.well_formed.0 in
     let g : length row ≡ 10 = omega (arith, c.well_formed.1.0) in (
-      omega arith,
+      l.invariant.0,
       l.invariant.1,
-      l.invariant.2,
-      copy_more es 0 (pick es blank_entry row) l.k blank_entry l.m.entries l.invariant.3 l.k
+      copy_more es 0 (pick es blank_entry row) l.k blank_entry l.m.entries l.invariant.2 l.k
           (get_or es (get_or row l.k 0) blank_entry) (l.k + 1) (omega arith) (sym (pick_at es blank_entry row blank_entry l.k (omega arith)))
           (omega arith) (omega arith) (omega arith),
     )
@@ -37,5 +36,5 @@ returns c =
     let g : length row ≡ 10 = omega (arith, c.well_formed.1.0) in
     let e : l.k ≡ a.count = omega arith in
     copy_shows l.m es 0 (pick es blank_entry row) l.k l.m.count (page a.level (pick es blank_entry (take a.count row)))
-    l.invariant.3 f (omega arith) (omega arith) (omega arith) l.invariant.1
+    l.invariant.2 f (omega arith) (omega arith) (omega arith) l.invariant.0
     (ap (λ k. take k (pick es blank_entry row)) e ∙ sym (map_take (λ i. get_or es i blank_entry) a.count row))
