@@ -12,15 +12,8 @@ use figures::Table;
 use table::node::{Entry, Node};
 use table::slot;
 
-// What an insertion hands up: nothing new, or the entry of a new node.
-#[derive(Clone, Copy)]
-pub enum Up {
-    Same,
-    New(Entry),
-}
-
 // Of nine entries the first four stay; the other five go to the lowest free slot.
-fn split(table: &mut [i32], slot: usize, n: Node) -> Up
+fn split(table: &mut [i32], slot: usize, n: Node) -> Option<Entry>
     requires { MaySettle table.old slot n }
     ensures { grew table.new result ≡ split_of table.old slot n.level (held n) }
 {
@@ -31,37 +24,38 @@ fn split(table: &mut [i32], slot: usize, n: Node) -> Up
     let other = all.rest(half);
     slot::put_node_at(table, slot, first);
     slot::put_node_at(table, to, other);
-    Up::New(Entry {
+    Some(Entry {
         reference: to,
         rect: other.cover(),
     })
 }
 
 // Up to eight entries stay together.
-fn settle(table: &mut [i32], slot: usize, n: Node) -> Up
+fn settle(table: &mut [i32], slot: usize, n: Node) -> Option<Entry>
     requires { MaySettle table.old slot n }
     ensures { grew table.new result ≡ settled table.old slot n.level (held n) }
 {
     if n.count <= Table::FAN {
         slot::put_node_at(table, slot, n);
-        return Up::Same;
+        return None;
     }
     split(table, slot, n)
 }
 
 // The new node's entry, if there is one, goes last.
-fn with_new(n: Node, up: Up) -> Node
+fn with_new(n: Node, new: Option<Entry>) -> Node
     requires { n.count < 10 }
-    ensures { Shows result (page n.level (held n ++ new_of up)) }
+    ensures { Shows result (page n.level (held n ++ new_of new)) }
 {
-    match up {
-        Up::Same => n,
-        Up::New(e) => n.appended(e),
+    match new {
+        None => n,
+        Some(e) => n.appended(e),
     }
 }
 
 // Into the node in a slot, of a level. In a leaf the newcomer goes last; above, it goes into the child that is chosen.
-fn insert(table: &mut [i32], slot: usize, level: usize, e: Entry) -> Up
+// Handed up is the entry of a new node, if one was made.
+fn insert(table: &mut [i32], slot: usize, level: usize, e: Entry) -> Option<Entry>
     requires { MayInsert level table.old slot e }
     ensures { grew table.new result ≡ inserted level table.old slot e }
 {
@@ -73,9 +67,9 @@ fn insert(table: &mut [i32], slot: usize, level: usize, e: Entry) -> Up
     let i = choose(n, e.rect);
     let taker = n.entries[i];
     let child = taker.reference;
-    let up = insert(table, child, level - 1, e);
+    let new = insert(table, child, level - 1, e);
     let tight = slot::entry_for(table, child);
-    settle(table, slot, with_new(n.replaced(i, tight), up))
+    settle(table, slot, with_new(n.replaced(i, tight), new))
 }
 
 // A new root takes the lowest slot then free, with the old node first and the new one's entry last.
@@ -91,13 +85,12 @@ fn put_above(table: &mut [i32], slot: usize, level: usize, e: Entry)
 }
 
 // If the root has split, there is a new one above it.
-fn raise(table: &mut [i32], slot: usize, level: usize, up: Up)
-    requires { MayRaise table.old slot level × All EntryFits (new_of up) }
-    ensures { table.new ≡ rooted slot level table.old (new_of up) }
+fn raise(table: &mut [i32], slot: usize, level: usize, new: Option<Entry>)
+    requires { MayRaise table.old slot level × All EntryFits (new_of new) }
+    ensures { table.new ≡ rooted slot level table.old (new_of new) }
 {
-    match up {
-        Up::Same => {}
-        Up::New(e) => put_above(table, slot, level, e),
+    if let Some(e) = new {
+        put_above(table, slot, level, e);
     }
 }
 
@@ -118,8 +111,8 @@ fn put_next(table: &mut [i32], e: Entry)
 {
     let slot = slot::root_of(table);
     let level = slot::level_at(table, slot);
-    let up = insert(table, slot, level, e);
-    raise(table, slot, level, up);
+    let new = insert(table, slot, level, e);
+    raise(table, slot, level, new);
 }
 
 // A granted enrolment.

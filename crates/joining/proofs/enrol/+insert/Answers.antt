@@ -71,14 +71,14 @@ offset_bounds-n-i t c = omega (arith, small t c)
 pub bounds-n-i : goal.bounds-n-i
 bounds-n-i t c = small t c
 
-pub insert-up-requires : goal.insert-up-requires
-insert-up-requires t c =
+pub insert-new-requires : goal.insert-new-requires
+insert-new-requires t c =
     let h = c.if-level-eq0.false in
     (omega (arith, c.decreases, h), child_insert (in_node h c.requires) c.node_at-n.ensures c.choose-i.ensures)
 
 pub entry_for-tight-requires : goal.entry_for-tight-requires
 entry_for-tight-requires t c = (
-  c.insert-up.auto.table ∙ c.requires.planted.long,
+  c.insert-new.auto.table ∙ c.requires.planted.long,
   planted_inside (child_insert (in_node c.if-level-eq0.false c.requires) c.node_at-n.ensures c.choose-i.ensures).planted,
 )
 
@@ -95,13 +95,13 @@ with_new-requires t c =
 
 pub settle-requires-2 : goal.settle-requires-2
 settle-requires-2 t c =
-    let i = c.insert-up in
+    let i = c.insert-new in
     above_may (in_node c.if-level-eq0.false c.requires) c.node_at-n.ensures c.choose-i.ensures i.new.table i.result i.ensures
     c.entry_for-tight.ensures c.replaced.ensures c.with_new.ensures
 
 pub returns : goal.returns
 returns t c =
-    let i = c.insert-up in
+    let i = c.insert-new in
     let h = c.if-level-eq0.false in
     above_done (in_node h c.requires) c.node_at-n.ensures c.choose-i.ensures i.new.table i.result i.ensures
     c.entry_for-tight.ensures c.replaced.ensures c.with_new.ensures (grew c.settle-2.new.table c.settle-2.result)
