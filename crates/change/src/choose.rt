@@ -1,5 +1,5 @@
 // The way down: which entry takes a newcomer.
-ghost use Rattle.std.specs.Prelude.{◌≡◌, ◌≤◌, ◌<◌};
+ghost use Rattle.std.specs.Prelude.{◌≡◌, ◌<◌};
 ghost use Rattle.grid.specs.Place.{RectOnGrid};
 ghost use Rattle.order.specs.Lists.{All};
 ghost use Rattle.table.specs.Page.{held};
@@ -25,7 +25,7 @@ fn takes_before(new: Rect, r: Rect, s: Rect) -> bool
 
 // The place of the entry that takes the newcomer; of equal ones the lowest, so a later one must be better.
 pub fn choose(n: Node, new: Rect) -> usize
-    requires { (0 < n.count) × (n.count ≤ 10) × RectOnGrid new × All (λ e. RectOnGrid e.rect) (held n) }
+    requires { (0 < n.count) × RectOnGrid new × All (λ e. RectOnGrid e.rect) (held n) }
     ensures { result ≡ chosen new (held n) }
 {
     let mut best = 0;

@@ -1,19 +1,18 @@
 // A granted enrolment: the way down, the node that takes the newcomer, and the splits on the way back up.
-ghost use Rattle.std.specs.Prelude.{◌≡◌, [], ◌∷◌, ◌++◌, ◌<◌, length};
+ghost use Rattle.std.specs.Prelude.{◌≡◌, [], ◌∷◌, ◌++◌, ◌<◌};
 ghost use Rattle.order.specs.Lists.{All};
-ghost use Rattle.figures.specs.Figures.{LENGTH};
 ghost use Rattle.table.specs.Page.{page, held, Shows, EntryFits};
 ghost use Rattle.joining.specs.Enrol.{split as split_of, settled, inserted, rooted, first_enrolled, next_enrolled, enrolled};
 ghost use Rattle.joining.specs.Within.{new_of, grew, MaySettle, MayInsert, MayRaise, MayGrow, MayEnrol};
 
 use change::choose::choose;
 use change::share::lined;
-use figures::Table;
+use figures::{Table, Words};
 use table::node::{Entry, Node};
 use table::slot;
 
 // Of nine entries the first four stay; the other five go to the lowest free slot.
-fn split(table: &mut [i32], slot: usize, n: Node) -> Option<Entry>
+fn split(table: &mut Words, slot: usize, n: Node) -> Option<Entry>
     requires { MaySettle table.old slot n }
     ensures { grew table.new result ≡ split_of table.old slot n.level (held n) }
 {
@@ -31,7 +30,7 @@ fn split(table: &mut [i32], slot: usize, n: Node) -> Option<Entry>
 }
 
 // Up to eight entries stay together.
-fn settle(table: &mut [i32], slot: usize, n: Node) -> Option<Entry>
+fn settle(table: &mut Words, slot: usize, n: Node) -> Option<Entry>
     requires { MaySettle table.old slot n }
     ensures { grew table.new result ≡ settled table.old slot n.level (held n) }
 {
@@ -55,7 +54,7 @@ fn with_new(n: Node, new: Option<Entry>) -> Node
 
 // Into the node in a slot, of a level. In a leaf the newcomer goes last; above, it goes into the child that is chosen.
 // Handed up is the entry of a new node, if one was made.
-fn insert(table: &mut [i32], slot: usize, level: usize, e: Entry) -> Option<Entry>
+fn insert(table: &mut Words, slot: usize, level: usize, e: Entry) -> Option<Entry>
     requires { MayInsert level table.old slot e }
     ensures { grew table.new result ≡ inserted level table.old slot e }
 {
@@ -73,7 +72,7 @@ fn insert(table: &mut [i32], slot: usize, level: usize, e: Entry) -> Option<Entr
 }
 
 // A new root takes the lowest slot then free, with the old node first and the new one's entry last.
-fn put_above(table: &mut [i32], slot: usize, level: usize, e: Entry)
+fn put_above(table: &mut Words, slot: usize, level: usize, e: Entry)
     requires { MayRaise table.old slot level × EntryFits e }
     ensures { table.new ≡ rooted slot level table.old (e ∷ []) }
 {
@@ -85,7 +84,7 @@ fn put_above(table: &mut [i32], slot: usize, level: usize, e: Entry)
 }
 
 // If the root has split, there is a new one above it.
-fn raise(table: &mut [i32], slot: usize, level: usize, new: Option<Entry>)
+fn raise(table: &mut Words, slot: usize, level: usize, new: Option<Entry>)
     requires { MayRaise table.old slot level × All EntryFits (new_of new) }
     ensures { table.new ≡ rooted slot level table.old (new_of new) }
 {
@@ -95,8 +94,8 @@ fn raise(table: &mut [i32], slot: usize, level: usize, new: Option<Entry>)
 }
 
 // On the empty table slot 0 becomes a root leaf with the one entry.
-fn put_first(table: &mut [i32], e: Entry)
-    requires { (length table.old ≡ LENGTH) × EntryFits e }
+fn put_first(table: &mut Words, e: Entry)
+    requires { EntryFits e }
     ensures { table.new ≡ first_enrolled table.old e }
 {
     let n = Node::empty(0).appended(e);
@@ -105,7 +104,7 @@ fn put_first(table: &mut [i32], e: Entry)
 }
 
 // Otherwise the way starts at the root.
-fn put_next(table: &mut [i32], e: Entry)
+fn put_next(table: &mut Words, e: Entry)
     requires { MayGrow table.old e }
     ensures { table.new ≡ next_enrolled table.old e }
 {
@@ -116,7 +115,7 @@ fn put_next(table: &mut [i32], e: Entry)
 }
 
 // A granted enrolment.
-pub fn enrol_in(table: &mut [i32], e: Entry)
+pub fn enrol_in(table: &mut Words, e: Entry)
     requires { MayEnrol table.old e }
     ensures { table.new ≡ enrolled table.old e }
 {

@@ -31,5 +31,5 @@ unfolding chosen
 returns c =
     let l = c.loop-k in
     let n = c.args.n in
-    let k : l.k - 1 ≡ length (held n) - 1 = omega (arith, held_length n (full n c.well_formed.0) (omega arith)) in
+    let k : l.k - 1 ≡ length (held n) - 1 = omega (arith, held_length n (full n c.well_formed.0)) in
     l.invariant.1 ∙ ap (chosen_up_to c.args.new (held n)) k

@@ -7,4 +7,4 @@ use Rattle.change.proofs.share.placed_by.Given as goal
 
 abbrev pub invariant-loop-k : goal.invariant-loop-k
 invariant-loop-k l =
-    (l.m.level ≡ l.n.level) × (l.m.count ≡ l.n.count) × (l.m.entries ≡ paste l.n.entries 0 (pick l.n.entries blank_entry l.row) l.k)
+    l.entries ≡ paste l.n.entries 0 (pick l.n.entries blank_entry l.row) l.k
