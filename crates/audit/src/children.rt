@@ -47,16 +47,7 @@ pub fn rule5_at(table: &[i32], slot: usize) -> bool
         return true;
     }
     let n = slot::node_at(table, slot);
-    let count = n.count;
-    let mut i = 0;
-    while i < count {
-        let e = n.entries[i];
-        if !is_child(table, slot, e) {
-            return false;
-        }
-        i += 1;
-    }
-    true
+    n.entries[..n.count].iter().all(|e| is_child(table, slot, *e))
 }
 
 fn same_span(s: Span, t: Span) -> bool
@@ -86,15 +77,11 @@ pub fn rule6_at(table: &[i32], slot: usize) -> bool
         return true;
     }
     let n = slot::node_at(table, slot);
-    let count = n.count;
-    let mut i = 0;
-    while i < count {
-        let e = n.entries[i];
+    for e in &n.entries[..n.count] {
         let below = slot::entry_for(table, e.reference);
         if !same_rect(e.rect, below.rect) {
             return false;
         }
-        i += 1;
     }
     true
 }

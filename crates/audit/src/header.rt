@@ -3,8 +3,6 @@ ghost use Rattle.std.specs.Prelude.{◌≡◌, length};
 ghost use Rattle.figures.specs.Figures.{LENGTH};
 ghost use Rattle.rules.specs.Rules.{is_empty, rule2};
 
-use crate::asked;
-use crate::asked::Rule;
 use figures::Table;
 use table::{part, slot};
 use words::border;
@@ -20,8 +18,7 @@ pub fn is_empty(table: &[i32]) -> bool
     if slot::points_of(table) != 0 {
         return false;
     }
-    let uncounted = [0; Table::SLOTS];
-    asked::first_broken(table, Rule::Free, &uncounted) == Table::SLOTS
+    (0..Table::SLOTS).all(|slot| slot::is_free(table, slot))
 }
 
 // Rule 2: empty, or the root is a used slot and points are 1 to 500.

@@ -48,16 +48,7 @@ pub fn all_points(n: Node) -> bool
     requires { n.count ≤ FAN }
     ensures { result ≡ every is_point (held n) }
 {
-    let count = n.count;
-    let mut i = 0;
-    while i < count {
-        let e = n.entries[i];
-        if !is_point(e) {
-            return false;
-        }
-        i += 1;
-    }
-    true
+    n.entries[..n.count].iter().all(|e| is_point(*e))
 }
 
 // Marks the numbers of a leaf in the map of all numbers; false at the first that is marked already.
@@ -65,16 +56,12 @@ fn mark(seen: &mut [bool; NUMBERS], n: Node) -> bool
     requires { (n.count ≤ FAN) × (every is_point (held n) ≡ true) }
     ensures { (before : List ℕ) → Marks seen.old before → Entered before (refs_of (held n)) result seen.new }
 {
-    let count = n.count;
-    let mut i = 0;
-    while i < count {
-        let e = n.entries[i];
+    for e in &n.entries[..n.count] {
         let number = e.reference;
         if seen[number] {
             return false;
         }
         seen[number] = true;
-        i += 1;
     }
     true
 }
@@ -95,18 +82,16 @@ fn rule4_at(table: &[i32], slot: usize, seen: &mut [bool; NUMBERS]) -> bool
     mark(seen, n)
 }
 
-// The lowest slot where rule 4 is broken, in one pass; Table::SLOTS if it holds at every one. A number that is met again is broken at the later place.
-pub fn rule4_first(table: &[i32]) -> usize
+// The lowest slot where rule 4 is broken, in one pass; none if it holds at every one. A number that is met again is broken at the later place.
+pub fn rule4_first(table: &[i32]) -> Option<usize>
     requires { length table.now ≡ LENGTH }
     ensures { Lowest (rule4 table.now) SLOTS result }
 {
     let mut seen = [false; NUMBERS];
-    let mut slot = 0;
-    while slot < Table::SLOTS {
+    for slot in 0..Table::SLOTS {
         if !rule4_at(table, slot, &mut seen) {
-            return slot;
+            return Some(slot);
         }
-        slot += 1;
     }
-    slot
+    None
 }

@@ -10,7 +10,6 @@ ghost use Rattle.rules.specs.Rules.{refs_at, rule5, rule7, rule7_header};
 ghost use Rattle.audit.specs.Seen.{refs_of, Tally};
 ghost use Rattle.audit.specs.Asked.{Lowest};
 
-use crate::asked::Rule;
 use crate::{asked, children};
 use figures::Table;
 use table::node::Node;
@@ -22,13 +21,8 @@ fn count_references(times: &mut [usize; Table::SLOTS], n: Node)
     requires inside { (n.count ≤ FAN) × All (λ e. e.reference < SLOTS) (held n) }
     ensures { (before : List ℕ) → Tally times.old before → Tally times.new (before ++ refs_of (held n)) }
 {
-    let count = n.count;
-    let mut i = 0;
-    while i < count {
-        let e = n.entries[i];
-        let child = e.reference;
-        times[child] = times[child] + 1;
-        i += 1;
+    for e in &n.entries[..n.count] {
+        times[e.reference] += 1;
     }
 }
 
@@ -62,10 +56,8 @@ pub fn leaf_entries(table: &[i32]) -> usize
     ensures { result ≡ length (stations table.now) }
 {
     let mut points = 0;
-    let mut slot = 0;
-    while slot < Table::SLOTS {
-        points = points + points_at(table, slot);
-        slot += 1;
+    for slot in 0..Table::SLOTS {
+        points += points_at(table, slot);
     }
     points
 }
@@ -92,16 +84,14 @@ pub fn points_agree(table: &[i32]) -> bool
     slot::points_of(table) == leaf_entries(table)
 }
 
-// The lowest slot where rule 7 is broken; Table::SLOTS if it holds at every one.
-pub fn rule7_first(table: &[i32]) -> usize
+// The lowest slot where rule 7 is broken; none if it holds at every one.
+pub fn rule7_first(table: &[i32]) -> Option<usize>
     requires { (length table.now ≡ LENGTH) × (every (rule5 table.now) slots ≡ true) }
     ensures { Lowest (rule7 table.now) SLOTS result }
 {
     let mut times = [0; Table::SLOTS];
-    let mut slot = 0;
-    while slot < Table::SLOTS {
+    for slot in 0..Table::SLOTS {
         count_at(table, slot, &mut times);
-        slot += 1;
     }
-    asked::first_broken(table, Rule::Seven, &times)
+    asked::first_broken(|slot| rule7_at(table, slot, &times))
 }

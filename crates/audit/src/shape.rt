@@ -17,14 +17,7 @@ pub fn zeros_from(part: &[i32], from: usize) -> bool
     requires { from ≤ length part.now }
     ensures { result ≡ every is_zero (drop from part.now) }
 {
-    let mut at = from;
-    while at < part.len() {
-        if border::steps_at(part, at) != ZERO {
-            return false;
-        }
-        at += 1;
-    }
-    true
+    part[from..].iter().all(|word| *word == 0)
 }
 
 // Rule 1: a free slot has 41 zeros after its level; words of unused entries are zero in every slot.

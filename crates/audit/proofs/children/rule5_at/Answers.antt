@@ -10,20 +10,10 @@ pub returns-then-not-is_above : goal.returns-then-not-is_above
 unfolding rule5
 returns-then-not-is_above c = rw (failed c.is_above.ensures c.if-not-is_above.true)
 
-pub returns-then-not-is_child : goal.returns-then-not-is_child
-unfolding rule5
-returns-then-not-is_child c =
-    let a = c.args in
-    let ws = a.table.now in
-    let s = a.slot in
-    rw (passed c.is_above.ensures c.if-not-is_above.false)
-    (sym (entry_fails (is_child ws s) c.node_at-n.ensures c.loop-i.i (omega arith) (failed c.is_child.ensures c.if-not-is_child.true)))
-
 pub returns : goal.returns
 unfolding rule5
 returns c =
     let a = c.args in
     let ws = a.table.now in
     let s = a.slot in
-    rw (passed c.is_above.ensures c.if-not-is_above.false)
-    (sym (entries_pass (is_child ws s) c.node_at-n.ensures c.loop-i.i c.loop-i.invariant (omega arith)))
+    rw (passed c.is_above.ensures c.if-not-is_above.false) ?

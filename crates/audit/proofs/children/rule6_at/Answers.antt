@@ -19,32 +19,32 @@ entry_for-below-requires c =
     let a = c.args in
     let above = passed c.is_above.ensures c.if-not-is_above.false in (
       omega arith,
-      child_inside a.table.now a.slot above c.requires.2 c.node_at-n.ensures c.loop-i.i (omega arith),
+      child_inside a.table.now a.slot above c.requires.2 c.node_at-n.ensures c.loop-e.e-index (omega arith),
     )
 
 pub returns-then-not-same_rect : goal.returns-then-not-same_rect
 unfolding rule6 entry_for
 returns-then-not-same_rect c =
-    let tight : c.same_rect.result ≡ tight_at c.args.table.now (get_or c.node_at-n.result.entries c.loop-i.i blank_entry) =
-    let e = get_or c.node_at-n.result.entries c.loop-i.i blank_entry in
+    let tight : c.same_rect.result ≡ tight_at c.args.table.now (get_or c.node_at-n.result.entries c.loop-e.e-index blank_entry) =
+    let e = get_or c.node_at-n.result.entries c.loop-e.e-index blank_entry in
     c.same_rect.ensures ∙ ap (λ x. same_rect e.rect x.rect) c.entry_for-below.ensures in
     let a = c.args in
     let ws = a.table.now in
     let s = a.slot in
     rw (passed c.is_above.ensures c.if-not-is_above.false)
-    (sym (entry_fails (tight_at ws) c.node_at-n.ensures c.loop-i.i (omega arith) (failed (tight) c.if-not-same_rect.true)))
+    (sym (entry_fails (tight_at ws) c.node_at-n.ensures c.loop-e.e-index (omega arith) (failed (tight) c.if-not-same_rect.true)))
 
-pub loop-i-preserved : goal.loop-i-preserved
+pub loop-e-preserved : goal.loop-e-preserved
 unfolding entry_for
-loop-i-preserved c =
-    let tight : c.same_rect.result ≡ tight_at c.args.table.now (get_or c.node_at-n.result.entries c.loop-i.i blank_entry) =
-    let e = get_or c.node_at-n.result.entries c.loop-i.i blank_entry in
+loop-e-preserved c =
+    let tight : c.same_rect.result ≡ tight_at c.args.table.now (get_or c.node_at-n.result.entries c.loop-e.e-index blank_entry) =
+    let e = get_or c.node_at-n.result.entries c.loop-e.e-index blank_entry in
     c.same_rect.ensures ∙ ap (λ x. same_rect e.rect x.rect) c.entry_for-below.ensures in
     let a = c.args in
     let ws = a.table.now in
     let s = a.slot in
     let n = c.node_at-n.result in
-    one_tested (test_at (tight_at ws) n.entries blank_entry) n.count c.loop-i.i c.loop-i.invariant (omega arith) (passed (tight) c.if-not-same_rect.false)
+    one_tested (test_at (tight_at ws) n.entries blank_entry) n.count c.loop-e.e-index c.loop-e.e-indexnvariant (omega arith) (passed (tight) c.if-not-same_rect.false)
 
 pub returns : goal.returns
 unfolding rule6
@@ -53,4 +53,4 @@ returns c =
     let ws = a.table.now in
     let s = a.slot in
     rw (passed c.is_above.ensures c.if-not-is_above.false)
-    (sym (entries_pass (tight_at ws) c.node_at-n.ensures c.loop-i.i c.loop-i.invariant (omega arith)))
+    (sym (entries_pass (tight_at ws) c.node_at-n.ensures c.loop-e.e-index c.loop-e.e-indexnvariant (omega arith)))
