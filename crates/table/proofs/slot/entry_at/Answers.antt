@@ -19,4 +19,4 @@ returns c =
     let t = c.start-2 in
     c.entry_of.ensures
     ∙ ap (λ (part : Words). entry_of part a.i) (lent_part a.table.now a.slot f.result t.result f.ensures t.ensures)
-    ∙ entries_at_lem a.table.now a.slot a.i c.requires.2
+    ∙ entries_at_lem a.table.now a.slot a.i c.requires.1
