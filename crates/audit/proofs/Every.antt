@@ -47,9 +47,9 @@ pub all_pass : (P : ℕ → Bool) (n i : ℕ) → Tested P n i → n ≤ i → e
 all_pass P n i t h = below_every P n (λ k l. t.each k (omega arith))
 
 -- what answers as a rule does answers no where the rule is broken
-pub lowest_of : {answers : ℕ → Bool → Type 0} (P : ℕ → Bool) (n : ℕ) → ((k : ℕ) (b : Bool) → k < n → answers k b → b ≡ P k) → (r : Option ℕ) → LowestNo answers n r → Lowest P n r
-lowest_of P n same None l = λ k h. sym (same k true h (l k h))
-lowest_of P n same (Some r) l =
+pub lowest_of : {answers : ℕ → Bool → Type 0} (P : ℕ → Bool) (n : ℕ) → (r : Option ℕ) → LowestNo answers n r → ((k : ℕ) (b : Bool) → k < n → answers k b → b ≡ P k) → Lowest P n r
+lowest_of P n None l same = λ k h. sym (same k true h (l k h))
+lowest_of P n (Some r) l same =
     record {
       within = l.within;
       below = λ k h. let u : k < n = omega (arith, l.within) in sym (same k true u (l.below k h));

@@ -3,7 +3,7 @@ ghost use Rattle.std.specs.Prelude.{ℕ, ◌<◌};
 ghost use Rattle.figures.specs.Figures.{SLOTS};
 ghost use Rattle.audit.specs.Asked.{LowestNo};
 
-use figures::Table;
+use figures::{Table, Words};
 
 // The lowest slot where a rule is broken; none if it holds at every one.
 pub fn first_broken<F: Fn(usize) -> bool>(holds: F) -> Option<usize>

@@ -3,7 +3,7 @@
 // It stands on rules (what each rule says) and table (parts, nodes, slots).
 #![tactic(auto)]
 
-ghost use Rattle.std.specs.Prelude.{◌≡◌, ◌<◌, Err, MatchOption, cond, pos, negsuc};
+ghost use Rattle.std.specs.Prelude.{◌≡◌, ◌<◌, Err, IfSome, MatchOption, cond, pos, negsuc};
 ghost use Rattle.figures.specs.Figures.{SLOTS};
 ghost use Rattle.table.specs.Given.{Done};
 ghost use Rattle.audit.specs.Check.{check_gives};
@@ -16,12 +16,12 @@ pub mod references;
 pub mod shape;
 
 use asked::first_broken;
-use figures::Table;
+use figures::Words;
 use table::given::{Given, Refusal};
 
 // What is given of a rule of the slots: it may be broken at one of them.
 fn at_slots(rule: u8, broken: Option<usize>) -> Given
-    requires { MatchOption broken (Unit {0}) (λ slot. slot < SLOTS) }
+    requires { IfSome broken (λ slot. slot < SLOTS) }
     ensures { MatchOption broken (result ≡ Done) (λ slot. result ≡ Err (Refusal.NotWellFormed rule (pos slot))) }
 {
     match broken {
@@ -48,9 +48,9 @@ fn at_header(rule: u8, holds: bool) -> Given
 pub fn check(table: &[i32]) -> Given
     ensures { result ≡ check_gives table.now }
 {
-    if table.len() != Table::LENGTH {
+    let Some(table) = table.as_array() else {
         return Err(Refusal::WrongLength);
-    }
+    };
     at_slots(1, first_broken(|slot| shape::rule1_at(table, slot)))?;
     at_header(2, header::rule2_holds(table))?;
     at_slots(3, first_broken(|slot| shape::rule3_at(table, slot)))?;

@@ -1,8 +1,8 @@
 // Rule 4: the points in the leaves, no number twice.
-ghost use Rattle.std.specs.Prelude.{◌≡◌, true, List, ℕ, ◌+◌, ◌≤◌, ◌<◌, length};
+ghost use Rattle.std.specs.Prelude.{◌≡◌, true, List, ℕ, ◌+◌, ◌≤◌, ◌<◌};
 ghost use Rattle.order.specs.Lists.{every, join};
 ghost use Rattle.order.specs.Order.{up_from};
-ghost use Rattle.figures.specs.Figures.{FAN, SLOTS, LENGTH};
+ghost use Rattle.figures.specs.Figures.{FAN, SLOTS};
 ghost use Rattle.table.specs.Page.{held};
 ghost use Rattle.table.specs.Stations.{span_is_spot, is_point};
 ghost use Rattle.rules.specs.Rules.{numbers_at, rule4};
@@ -10,7 +10,7 @@ ghost use Rattle.audit.specs.Seen.{refs_of, Marks, Entered};
 ghost use Rattle.audit.specs.Asked.{Lowest};
 
 use axis::span::Span;
-use figures::Table;
+use figures::{Table, Words};
 use table::node::{Entry, Node};
 use table::slot;
 use words::border;
@@ -67,8 +67,8 @@ fn mark(seen: &mut [bool; NUMBERS], n: Node) -> bool
 }
 
 // Rule 4 at one slot, where the map marks the numbers in the slots before it.
-fn rule4_at(table: &[i32], slot: usize, seen: &mut [bool; NUMBERS]) -> bool
-    requires { (length table.now ≡ LENGTH) × (slot < SLOTS) × Marks seen.old (join (numbers_at table.now) (up_from 0 slot)) }
+fn rule4_at(table: &Words, slot: usize, seen: &mut [bool; NUMBERS]) -> bool
+    requires { (slot < SLOTS) × Marks seen.old (join (numbers_at table.now) (up_from 0 slot)) }
     ensures answer { result ≡ rule4 table.now slot }
     ensures marks { result ≡ true → Marks seen.new (join (numbers_at table.now) (up_from 0 (slot + 1))) }
 {
@@ -83,8 +83,7 @@ fn rule4_at(table: &[i32], slot: usize, seen: &mut [bool; NUMBERS]) -> bool
 }
 
 // The lowest slot where rule 4 is broken, in one pass; none if it holds at every one. A number that is met again is broken at the later place.
-pub fn rule4_first(table: &[i32]) -> Option<usize>
-    requires { length table.now ≡ LENGTH }
+pub fn rule4_first(table: &Words) -> Option<usize>
     ensures { Lowest (rule4 table.now) SLOTS result }
 {
     let mut seen = [false; NUMBERS];

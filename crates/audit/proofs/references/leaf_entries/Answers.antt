@@ -22,4 +22,6 @@ loop-slot-preserved c =
 
 pub returns : goal.returns
 unfolding stations
-returns c = c.loop-slot.invariant.0
+returns c =
+    let e : c.loop-slot.slot ≡ SLOTS = omega arith in
+    c.loop-slot.invariant.0 ∙ ap (λ n. length (join (stations_at c.args.table.now) (up_from 0 n))) e

@@ -1,5 +1,6 @@
 -- `shape::zeros_from` meets its contract. Assumes nothing.
 use Rattle.std.proofs.Common.{rules}
+use Rattle.std.proofs.lemmas.List.{take_rest}
 use Rattle.std.proofs.lemmas.Iterator.{YieldsList-from_slice}
 use Rattle.std.proofs.lemmas.Iterator.Search.{all_from_yields_List}
 use borrow.Author.Tests.{tests}
@@ -11,5 +12,5 @@ use Rattle.audit.proofs.shape.zeros_from.Goals as goal
 
 pub returns : goal.returns
 returns c =
-    let h = c.iter.ensures.rest in
-    all_from_yields_List is_zero _ _ c.all.result c.all.ensures.ran (YieldsList-from_slice (drop c.args.from c.args.part.now) ?) (λ x b q k. ?) ∙ std_all is_zero (drop c.args.from c.args.part.now)
+    let ws = c.args.part.now in
+    all_from_yields_List is_zero _ _ c.all.result c.all.ensures.ran (YieldsList-from_slice (drop c.args.from ws) (c.iter.ensures.rest ∙ take_rest ws c.args.from)) (λ x b q k. let h = k in ?) ∙ std_all is_zero (drop c.args.from c.args.part.now)
