@@ -26,8 +26,7 @@ pub fn filled_part(part: &[i32]) -> usize
     requires { length part.now ≡ WIDTH }
     ensures { result ≡ filled part.now }
 {
-    let said = border::natural_at(part, 1);
-    if said < Table::FAN { said } else { Table::FAN }
+    border::natural_at(part, 1).min(Table::FAN)
 }
 
 // Entry i: reference, x low, y low, x high, y high.
@@ -57,15 +56,15 @@ pub fn node_of(part: &[i32]) -> Node
     ensures { Shows result (page_of part.now) }
 {
     let count = filled_part(part);
-    let mut n = Node::empty(border::natural_at(part, 0));
-    let mut i = 0;
-    while i < count {
-        let e = entry_of(part, i);
-        n.entries[i] = e;
-        i += 1;
+    let mut entries = [Entry::blank(); 10];
+    for i in 0..count {
+        entries[i] = entry_of(part, i);
     }
-    n.count = count;
-    n
+    Node {
+        level: border::natural_at(part, 0),
+        count,
+        entries,
+    }
 }
 
 pub fn put_entry(part: &mut [i32], i: usize, e: Entry)
@@ -85,27 +84,19 @@ pub fn free_part(part: &mut [i32])
     requires { length part.old ≡ WIDTH }
     ensures { part.new ≡ free_words }
 {
+    part.fill(0);
     border::put_steps(part, 0, NONE);
-    let mut at = 1;
-    while at < Table::WIDTH {
-        border::put_natural(part, at, 0);
-        at += 1;
-    }
 }
 
 // The node's level, number and entries; words of unused entries are zero.
 pub fn put_node(part: &mut [i32], n: Node)
-    requires { (length part.old ≡ WIDTH) × (n.count ≤ FAN) × PageFits (shown n) }
+    requires { (length part.old ≡ WIDTH) × PageFits (shown n) }
     ensures { part.new ≡ page_words (shown n) }
 {
     free_part(part);
     border::put_natural(part, 0, n.level);
     border::put_natural(part, 1, n.count);
-    let count = n.count;
-    let mut i = 0;
-    while i < count {
-        let e = n.entries[i];
-        put_entry(part, i, e);
-        i += 1;
+    for (i, e) in n.held().iter().enumerate() {
+        put_entry(part, i, *e);
     }
 }

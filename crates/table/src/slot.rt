@@ -1,6 +1,6 @@
 // The slots of a lent table, and its two header words.
 ghost use Rattle.std.specs.Prelude.{◌≡◌, ◌≤◌, ◌<◌, ◌^◌, pos, negsuc, length, get_or};
-ghost use Rattle.figures.specs.Figures.{FAN, SLOTS};
+ghost use Rattle.figures.specs.Figures.{SLOTS};
 ghost use Rattle.table.specs.Words.{root_of, points_of, start_of};
 ghost use Rattle.table.specs.Page.{Shows, shown, PageFits, blank_entry};
 ghost use Rattle.table.specs.Slots.{is_free, page_at, level_at, entries_at, put_page, freed, lowest_free, entry_for, with_root, with_points};
@@ -89,7 +89,7 @@ pub fn entry_at(table: &Words, slot: usize, i: usize) -> Entry
 }
 
 pub fn put_node_at(table: &mut Words, slot: usize, n: Node)
-    requires { (slot < SLOTS) × (n.count ≤ FAN) × PageFits (shown n) }
+    requires { (slot < SLOTS) × PageFits (shown n) }
     ensures { table.new ≡ put_page table.old slot (shown n) }
 {
     part::put_node(&mut table[start(slot)..start(slot + 1)], n);
@@ -103,17 +103,16 @@ pub fn free_slot(table: &mut Words, slot: usize)
 }
 
 // The lowest free slot; SLOTS if none is free.
+// Kept: SLOTS for none, and no Option; every caller has a free slot, so an Option would add a branch that no call takes.
 pub fn lowest_free(table: &Words) -> usize
     ensures { result ≡ lowest_free table.now }
 {
-    let mut slot = 0;
-    while slot < Table::SLOTS {
+    for slot in 0..Table::SLOTS {
         if is_free(table, slot) {
             return slot;
         }
-        slot += 1;
     }
-    slot
+    Table::SLOTS
 }
 
 // The entry that a node above has for the node in a slot.
@@ -121,9 +120,8 @@ pub fn entry_for(table: &Words, slot: usize) -> Entry
     requires { slot < SLOTS }
     ensures { result ≡ entry_for table.now slot }
 {
-    let n = node_at(table, slot);
     Entry {
         reference: slot,
-        rect: n.cover(),
+        rect: node_at(table, slot).cover(),
     }
 }
