@@ -3,9 +3,9 @@
 use Prim.Native.Nat.{ℕ, suc, ◌+◌, ◌≤◌, ◌<◌}
 use native.Mathlib.Omega.{arith}
 use mathlib.Core.Path.{◌≡◌, refl, ap, sym, ◌∙◌}
-use mathlib.Core.Bool.{Bool, true, false, ◌&&◌, false≢true}
+use mathlib.Core.Bool.{Bool, true, false, not, ◌&&◌, false≢true}
 use mathlib.Core.List.{List, [], ◌∷◌}
-use Rattle.std.specs.Prelude.{Option, None, Some}
+use Rattle.std.specs.Prelude.{Option, None, Some, MatchOption, IfSome}
 use Rattle.std.specs.List.{list_all}
 use lib.ListN.{length, get_or}
 use borrow.Author.Count.{below_none, below_more}
@@ -47,14 +47,28 @@ pub all_pass : (P : ℕ → Bool) (n i : ℕ) → Tested P n i → n ≤ i → e
 all_pass P n i t h = below_every P n (λ k l. t.each k (omega arith))
 
 -- what answers as a rule does answers no where the rule is broken
-pub lowest_of : {answers : ℕ → Bool → Type 0} (P : ℕ → Bool) (n : ℕ) → (r : Option ℕ) → LowestNo answers n r → ((k : ℕ) (b : Bool) → k < n → answers k b → b ≡ P k) → Lowest P n r
-lowest_of P n None l same = λ k h. sym (same k true h (l k h))
-lowest_of P n (Some r) l same =
-    record {
-      within = l.within;
-      below = λ k h. let u : k < n = omega (arith, l.within) in sym (same k true u (l.below k h));
-      broken = sym (same r false l.within l.broken);
-    }
+module _ {answers : ℕ → Bool → Type 0} (P : ℕ → Bool) {n : ℕ} (same : (k : ℕ) (b : Bool) → k < n → answers k b → b ≡ P k) where
+  lowest_cases : (r : Option ℕ) → MatchOption r ((k : ℕ) → k < n → answers k true) (LowestAt answers n) → Lowest P n r
+  lowest_cases None l = record { cases = λ k h. sym (same k true h (l k h)) }
+  lowest_cases (Some r) l =
+      record {
+        cases = record {
+          within = l.within;
+          below = λ k h. let u : k < n = omega (arith, l.within) in sym (same k true u (l.below k h));
+          broken = sym (same r false l.within l.broken);
+        };
+      }
+
+  pub lowest_of : {r : Option ℕ} → LowestNo answers n r → Lowest P n r
+  lowest_of {r = r} l = lowest_cases r l.cases
+
+-- where one is given, it is one of them
+inside_cases : (answers : ℕ → Bool → Type 0) (n : ℕ) (r : Option ℕ) → MatchOption r ((k : ℕ) → k < n → answers k true) (LowestAt answers n) → IfSome r (λ s. s < n)
+inside_cases answers n None l = tt
+inside_cases answers n (Some s) l = l.within
+
+pub lowest_inside : {answers : ℕ → Bool → Type 0} {n : ℕ} {r : Option ℕ} → LowestNo answers n r → IfSome r (λ s. s < n)
+lowest_inside {answers} {n} {r} l = inside_cases answers n r l.cases
 
 -- what it says of a rule that is broken at a slot
 pub lowest_first : {P : ℕ → Bool} {n r : ℕ} → LowestAt (λ k b. P k ≡ b) n r → FirstAt n P r
@@ -62,6 +76,15 @@ lowest_first l = record { inside = l.within; below = l.below; broken = l.broken 
 
 pub lowest_fails : {P : ℕ → Bool} {n r : ℕ} → LowestAt (λ k b. P k ≡ b) n r → every P (up_from 0 n) ≡ false
 lowest_fails {P} {n} {r} l = one_fails P n r l.within l.broken
+
+-- a test that is made by `!=`
+pub unlike : {a b r : Bool} → a ≡ b → r ≡ not a → r ≡ true → b ≡ false
+unlike {a = true} e h t = absurd (false≢true (sym h ∙ t))
+unlike {a = false} e h t = sym e
+
+pub alike : {a b r : Bool} → a ≡ b → r ≡ not a → r ≡ false → b ≡ true
+alike {a = true} e h t = sym e
+alike {a = false} e h t = absurd (false≢true (sym t ∙ h))
 
 -- ---- the elements of a list
 

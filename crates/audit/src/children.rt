@@ -45,7 +45,7 @@ pub fn rule5_at(table: &Words, slot: usize) -> bool
         return true;
     }
     let n = slot::node_at(table, slot);
-    n.entries[..n.count].iter().all(|e| is_child(table, slot, *e))
+    n.held().iter().all(|e| is_child(table, slot, *e))
 }
 
 // Rule 6: an entry's box is the smallest that covers all boxes in the child. The children are slots of the table by rule 5.
@@ -57,7 +57,7 @@ pub fn rule6_at(table: &Words, slot: usize) -> bool
         return true;
     }
     let n = slot::node_at(table, slot);
-    for e in &n.entries[..n.count] {
+    for e in n.held() {
         let below = slot::entry_for(table, e.reference);
         if e.rect != below.rect {
             return false;

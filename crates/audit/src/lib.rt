@@ -44,13 +44,10 @@ fn at_header(rule: u8, holds: bool) -> Given
     }
 }
 
-// The table check: 1, 2 or 0, and the table stays as it is. Each rule is asked in one pass, which stops at the lowest slot where it is broken.
-pub fn check(table: &[i32]) -> Given
+// The rules in their order. Each is asked in one pass, which stops at the lowest slot where it is broken.
+fn rules_kept(table: &Words) -> Given
     ensures { result ≡ check_gives table.now }
 {
-    let Some(table) = table.as_array() else {
-        return Err(Refusal::WrongLength);
-    };
     at_slots(1, first_broken(|slot| shape::rule1_at(table, slot)))?;
     at_header(2, header::rule2_holds(table))?;
     at_slots(3, first_broken(|slot| shape::rule3_at(table, slot)))?;
@@ -59,4 +56,14 @@ pub fn check(table: &[i32]) -> Given
     at_slots(6, first_broken(|slot| children::rule6_at(table, slot)))?;
     at_header(7, references::points_agree(table))?;
     at_slots(7, references::rule7_first(table))
+}
+
+// The table check: 1, 2 or 0, and the table stays as it is.
+pub fn check(table: &[i32]) -> Given
+    ensures { result ≡ check_gives table.now }
+{
+    let Some(words) = table.as_array() else {
+        return Err(Refusal::WrongLength);
+    };
+    rules_kept(words)
 }

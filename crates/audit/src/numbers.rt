@@ -1,8 +1,8 @@
 // Rule 4: the points in the leaves, no number twice.
-ghost use Rattle.std.specs.Prelude.{◌≡◌, true, List, ℕ, ◌+◌, ◌≤◌, ◌<◌};
+ghost use Rattle.std.specs.Prelude.{◌≡◌, true, List, ℕ, ◌+◌, ◌<◌};
 ghost use Rattle.order.specs.Lists.{every, join};
 ghost use Rattle.order.specs.Order.{up_from};
-ghost use Rattle.figures.specs.Figures.{FAN, SLOTS};
+ghost use Rattle.figures.specs.Figures.{SLOTS};
 ghost use Rattle.table.specs.Page.{held};
 ghost use Rattle.table.specs.Stations.{span_is_spot, is_point};
 ghost use Rattle.rules.specs.Rules.{numbers_at, rule4};
@@ -45,18 +45,17 @@ pub fn is_point(e: Entry) -> bool
 }
 
 pub fn all_points(n: Node) -> bool
-    requires { n.count ≤ FAN }
     ensures { result ≡ every is_point (held n) }
 {
-    n.entries[..n.count].iter().all(|e| is_point(*e))
+    n.held().iter().all(|e| is_point(*e))
 }
 
 // Marks the numbers of a leaf in the map of all numbers; false at the first that is marked already.
 fn mark(seen: &mut [bool; NUMBERS], n: Node) -> bool
-    requires { (n.count ≤ FAN) × (every is_point (held n) ≡ true) }
+    requires { every is_point (held n) ≡ true }
     ensures { (before : List ℕ) → Marks seen.old before → Entered before (refs_of (held n)) result seen.new }
 {
-    for e in &n.entries[..n.count] {
+    for e in n.held() {
         let number = e.reference;
         if seen[number] {
             return false;

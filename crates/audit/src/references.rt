@@ -18,10 +18,10 @@ use table::slot;
 // Adds the references of a node to the number of each slot.
 fn count_references(times: &mut [usize; Table::SLOTS], n: Node)
     requires room { (s : ℕ) → s < SLOTS → get_or times.old s 0 ≤ FAN * SLOTS }
-    requires inside { (n.count ≤ FAN) × All (λ e. e.reference < SLOTS) (held n) }
+    requires inside { All (λ e. e.reference < SLOTS) (held n) }
     ensures { (before : List ℕ) → Tally times.old before → Tally times.new (before ++ refs_of (held n)) }
 {
-    for e in &n.entries[..n.count] {
+    for e in n.held() {
         times[e.reference] += 1;
     }
 }

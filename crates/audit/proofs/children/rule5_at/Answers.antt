@@ -18,6 +18,5 @@ unfolding rule5
 returns c =
     let test = is_child c.args.table.now c.args.slot in
     let es = entries_at c.args.table.now c.args.slot in
-    let shown = c.node_at-n.ensures.entries in
     rw (passed c.is_above.ensures c.if-not-is_above.false)
-    (all_from_yields_List test _ _ c.all.result c.all.ensures.ran (YieldsList-from_slice es (c.iter.ensures.rest ∙ shown)) (λ x b q k. search (rules, tests)) ∙ std_all test es)
+    (all_from_yields_List test _ _ c.all.result c.all.ensures.ran (YieldsList-from_slice es (c.iter.ensures.rest ∙ c.held.ensures ∙ c.node_at-n.ensures.entries)) (λ x b q k. search (rules, tests)) ∙ std_all test es)

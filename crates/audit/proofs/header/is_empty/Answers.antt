@@ -1,5 +1,5 @@
 -- `header::is_empty` meets its contract: the tests in their order. Assumes nothing.
-use mathlib.Core.Path.{◌≡◌, sym, ◌∙◌}
+use mathlib.Core.Path.{◌≡◌, refl, sym, ◌∙◌}
 use mathlib.Core.Bool.{true, false}
 use Rattle.std.proofs.Common.{rules}
 use Rattle.std.proofs.lemmas.Iterator.{YieldsList-from_range}
@@ -37,5 +37,5 @@ returns c =
     let z = word ws 0 in
     let f : is_minus_one z ≡ true = sym (none_steps z) ∙ eq-eqb (steps_of z) 2147483647 (sym c.steps_at.ensures ∙ c.if-steps_at-ne-NONE.false) in
     let all : c.all.result ≡ list_all (is_free ws) slots =
-    all_from_yields_List (is_free ws) _ _ c.all.result c.all.ensures.ran (YieldsList-from_range 0 SLOTS SLOTS ? ?) (λ x b q k. search (rules, tests)) in
+    all_from_yields_List (is_free ws) _ _ c.all.result c.all.ensures.ran (YieldsList-from_range 0 SLOTS SLOTS refl refl) (λ x b q k. search (rules, tests)) in
     rw (f, eq-eqb (points_of ws) 0 (sym c.points_of.ensures ∙ c.if-points_of-ne0.false)) (all ∙ std_all (is_free ws) slots)

@@ -11,4 +11,4 @@ use Rattle.audit.proofs.numbers.all_points.Goals as goal
 
 pub returns : goal.returns
 returns c =
-    all_from_yields_List is_point _ _ c.all.result c.all.ensures.ran (YieldsList-from_slice (held c.args.n) (cc)) (λ x b q k. search (rules, tests)) ∙ std_all is_point (held c.args.n)
+    all_from_yields_List is_point _ _ c.all.result c.all.ensures.ran (YieldsList-from_slice (held c.args.n) (c.iter.ensures.rest ∙ c.held.ensures)) (λ x b q k. search (rules, tests)) ∙ std_all is_point (held c.args.n)

