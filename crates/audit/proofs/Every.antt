@@ -14,7 +14,7 @@ use Rattle.order.specs.Order.{up_from}
 use Rattle.audit.specs.Asked.{LowestAt, LowestNo, Lowest}
 use Rattle.order.proofs.Lists.{all_at}
 use Rattle.rules.proofs.Tests.{by_test, every_all, all_every}
-use Rattle.rules.proofs.Broken.{Everywhere, FirstAt}
+use Rattle.rules.proofs.Broken.{FirstAt}
 use Rattle.rules.proofs.Counted.{every_below, below_every}
 
 -- the first i of n have passed
