@@ -1,12 +1,12 @@
 // The slots of a lent table, and its two header words.
 ghost use Rattle.std.specs.Prelude.{◌≡◌, ◌≤◌, ◌<◌, ◌^◌, pos, negsuc, length, get_or};
 ghost use Rattle.figures.specs.Figures.{SLOTS};
-ghost use Rattle.table.specs.Words.{root_of, points_of, start_of};
+ghost use Rattle.table.specs.Words.{root_of, points_of, start_of, part_at};
 ghost use Rattle.table.specs.Page.{Shows, shown, PageFits, blank_entry};
 ghost use Rattle.table.specs.Slots.{is_free, page_at, level_at, entries_at, put_page, freed, lowest_free, entry_for, with_root, with_points};
 
 use crate::node::{Entry, Node};
-use crate::part;
+use crate::part::{self, Part};
 use figures::{Table, Words};
 use words::border;
 
@@ -16,6 +16,14 @@ fn start(slot: usize) -> usize
     ensures { result ≡ start_of slot }
 {
     2 + Table::WIDTH * slot
+}
+
+// The words of a slot.
+pub fn part_of(table: &Words, slot: usize) -> &Part
+    requires { slot < SLOTS }
+    ensures { result.now ≡ part_at table.now slot }
+{
+    table[start(slot)..start(slot + 1)].as_array().unwrap()
 }
 
 pub fn root_of(table: &Words) -> usize
@@ -55,7 +63,7 @@ pub fn is_free(table: &Words, slot: usize) -> bool
     requires { slot < SLOTS }
     ensures { result ≡ is_free table.now slot }
 {
-    part::is_free_part(&table[start(slot)..start(slot + 1)])
+    part::is_free_part(part_of(table, slot))
 }
 
 pub fn level_at(table: &Words, slot: usize) -> usize
@@ -69,7 +77,7 @@ pub fn node_at(table: &Words, slot: usize) -> Node
     requires { slot < SLOTS }
     ensures { Shows result (page_at table.now slot) }
 {
-    part::node_of(&table[start(slot)..start(slot + 1)])
+    part::node_of(part_of(table, slot))
 }
 
 // How many entries the node in a slot has.
@@ -77,7 +85,7 @@ pub fn count_at(table: &Words, slot: usize) -> usize
     requires { slot < SLOTS }
     ensures { result ≡ length (entries_at table.now slot) }
 {
-    part::filled_part(&table[start(slot)..start(slot + 1)])
+    part::filled_part(part_of(table, slot))
 }
 
 // One entry of the node in a slot, without the others.
@@ -85,7 +93,7 @@ pub fn entry_at(table: &Words, slot: usize, i: usize) -> Entry
     requires { (slot < SLOTS) × (i < length (entries_at table.now slot)) }
     ensures { result ≡ get_or (entries_at table.now slot) i blank_entry }
 {
-    part::entry_of(&table[start(slot)..start(slot + 1)], i)
+    part::entry_of(part_of(table, slot), i)
 }
 
 pub fn put_node_at(table: &mut Words, slot: usize, n: Node)
