@@ -65,7 +65,6 @@ pub ready_settles : {lo l : ℕ} {ws : Words} {s : ℕ} {xs : List (Item l)} →
 ready_settles {lo} {l} {ws} {s} {xs} r m h =
     let a : All Sits (held m) = subst (λ es. All Sits es) (sym h.entries) (ready_sits lo l ws s xs r) in
     record {
-      long = r.long;
       low = r.low;
       level = omega (arith, h.level, r.six);
       nine = omega (arith, h.count, length-map xs (entry_of_item l), r.nine);
@@ -194,12 +193,6 @@ module _ {k : ℕ} {ws : Words} {s : ℕ} {e : Entry} (may : MayInsert (suc k) w
   module _ (us : Words) (new : Option Entry) (below : grew us new ≡ inserted k ws (get_or n.entries i blank_entry).reference e) where
     below_is : grew us new ≡ inserted k ws (child_of ws s e) e
     below_is = below ∙ ap (λ o. inserted k ws o e) child_is
-
-    pub below_long : length us ≡ LENGTH
-    below_long = ap (λ g. length g.words) below_is ∙ (may_steps may).long
-
-    pub below_single : length (new_of new) ≤ 1
-    below_single = omega (arith, ap (λ g. length g.new) below_is, (may_steps may).single)
 
     module _ {tight : Entry} (read : tight ≡ entry_for us (get_or n.entries i blank_entry).reference) {r m : Node}
         (put : Shows r (page n.level (set (held n) i tight))) (more : Shows m (page r.level (held r ++ new_of new))) where
