@@ -17,7 +17,7 @@ use Rattle.table.specs.declared.given.Given.{Given}
 use Rattle.table.specs.declared.given.Given.TheVariants.{Done, ShortList}
 use Rattle.table.specs.Words.{Words}
 use Rattle.filter.specs.Query.{answers_found, laid_over}
-use Rattle.filter.proofs.Rows.{laid_length}
+use Rattle.filter.proofs.RowLaws.{laid_length}
 use Rattle.asking.specs.declared.answer.Reply.{Reply}
 use Rattle.record.specs.declared.Candidate.{Candidate}
 use Rattle.listing.specs.Listed.{Listed}

@@ -28,7 +28,7 @@ use Rattle.filter.specs.Walk.{Found}
 use Rattle.filter.specs.Query.{record_of, found, records_found, answers_found, laid_over}
 use Rattle.filter.proofs.Answers.{answers_right, candidates_few, candidates_points, opened_few, found_empty, answers_empty, answer_empty}
 use Rattle.filter.proofs.Meaning.{few_all_answer}
-use Rattle.filter.proofs.Rows.{laid_length}
+use Rattle.filter.proofs.RowLaws.{laid_length}
 use Rattle.refusals.specs.Refusals.{numbers_of, query_gives}
 use Rattle.refusals.specs.Cases.{if_short_list}
 use Rattle.desk.specs.Calls.{after_query}

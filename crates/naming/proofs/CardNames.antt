@@ -36,7 +36,7 @@ use Rattle.filter.specs.Meaning.{is_other}
 use Rattle.filter.specs.Walk.{spot_in}
 use Rattle.filter.specs.Query.{laid_over}
 use Rattle.filter.proofs.Rising.{filter_map}
-use Rattle.filter.proofs.Rows.{laid_set}
+use Rattle.filter.proofs.RowLaws.{laid_set}
 use Rattle.filter.proofs.Answers.{point_site, stations_empty}
 use Rattle.vetting.specs.Test.{below}
 use Rattle.vetting.proofs.Below.{root_count}
