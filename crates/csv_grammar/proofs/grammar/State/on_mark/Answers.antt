@@ -1,11 +1,11 @@
--- `csv_grammar::grammar::on_mark` meets its contract: between quote marks by `mark_quoted`, elsewhere by the definitions alone. Assumes nothing.
+-- `csv_grammar::grammar::State::on_mark` meets its contract: between quote marks by `mark_quoted`, elsewhere by the definitions alone. Assumes nothing.
 use Rattle.std.proofs.Common.{◌≡◌, refl}
 use Rattle.csv_grammar.specs.declared.grammar.State.{State}
 use Rattle.csv_grammar.specs.declared.grammar.State.TheVariants.{Start, Plain, Quoted, Closed, Broken}
 use Rattle.csv_grammar.specs.Grammar.{is_text, is_field}
 use Rattle.csv_grammar.specs.Reading.{OnMark, sound_from}
 use Rattle.csv_grammar.proofs.States.{mark_quoted}
-use Rattle.csv_grammar.proofs.grammar.on_mark.Goals as goal
+use Rattle.csv_grammar.proofs.grammar.State.on_mark.Goals as goal
 
 -- any state but Quoted
 elsewhere : (s : State) → (s ≡ Quoted → ⊥) → OnMark s Broken

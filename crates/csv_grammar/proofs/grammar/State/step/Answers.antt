@@ -1,7 +1,7 @@
--- `csv_grammar::grammar::step` meets its contract: an arm for each kind of byte. Those from 20 to 7E that are neither quote mark nor comma are TEXTDATA. Assumes nothing.
+-- `csv_grammar::grammar::State::step` meets its contract: an arm for each kind of byte. Those from 20 to 7E that are neither quote mark nor comma are TEXTDATA. Assumes nothing.
 use native.Mathlib.Omega.{arith}
 use Rattle.csv_grammar.proofs.States.{text_range, below_text, above_text, other_breaks}
-use Rattle.csv_grammar.proofs.grammar.step.Goals as goal
+use Rattle.csv_grammar.proofs.grammar.State.step.Goals as goal
 
 pub returns-in-32-to-126 : goal.returns-in-32-to-126
 returns-in-32-to-126 c =
