@@ -12,7 +12,8 @@ use mir.ValLaws.{to_z-of_z}
 use Rattle.axis.specs.Axis.{apart, sq}
 use Rattle.words.specs.Word.{IsWord, on_grid, steps_of}
 use Rattle.grid.specs.Place.{PlaceOnGrid, dist²}
-use Rattle.grid.specs.Site.{Site, square_apart, distance², place_of}
+use Rattle.grid.specs.declared.site.Site.{Site}
+use Rattle.grid.specs.Site.{square_apart, distance², place_of}
 use Rattle.words.proofs.Words.{grid_steps, grid_word}
 use Rattle.grid.proofs.Rects.{dist_most}
 
