@@ -92,7 +92,7 @@ module _ (bs : Bytes) (plain : is_plain bs ≡ true) where
   pub plain_length : (1 ≤ length bs) × (length bs ≤ 7)
   plain_length = digits_length bs plain_both
 
-  plain_digits : every is_digit bs ≡ true
+  pub plain_digits : every is_digit bs ≡ true
   plain_digits = and_right (between 1 7 (length bs)) (every is_digit bs) plain_both
 
   pub plain_at : (i : ℕ) → i < length bs → (ZERO ≤ get_or bs i 0) × (get_or bs i 0 ≤ 57)
