@@ -9,8 +9,9 @@ use lib.ListN.{length, take, drop, length-append}
 use lib.Seq.{take_at}
 use borrow.Author.Tests.{eqb-true}
 use Rattle.grid.specs.declared.place.Place.{Place}
-use Rattle.grid.specs.Site.{Site, place_of}
-use Rattle.grid.proofs.Site.{SiteOnGrid, place_grid}
+use Rattle.grid.specs.declared.site.Site.{Site}
+use Rattle.grid.specs.Site.{place_of}
+use Rattle.grid.proofs.Sites.{SiteOnGrid, place_grid}
 use Rattle.order.specs.Lists.{filter, every, All}
 use Rattle.order.proofs.Lists.{all_then, and_left, and_right}
 use Rattle.table.specs.declared.node.Entry.{Entry}

@@ -1,7 +1,7 @@
 -- A query for the answers alone: what it asks, and what it leaves.
 use Rattle.std.specs.Prelude.{ℕ, ◌≡◌, true, cond, List, leb, length}
 use Rattle.words.specs.Word.{on_grid}
-use Rattle.grid.specs.Site.{Site}
+use Rattle.grid.specs.declared.site.Site.{Site}
 use Rattle.table.specs.Words.{Words, points_of}
 use Rattle.rules.specs.Rules.{Passing}
 use Rattle.filter.specs.Query.{found, answers_found, laid_over}

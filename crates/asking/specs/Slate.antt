@@ -1,6 +1,7 @@
 -- What a query writes on, lent by who asks many of them: the rows of its walk, and the numbers of the candidates that pass its final test.
 use Rattle.std.specs.Prelude.{ℕ, ◌≤◌, List, length}
-use Rattle.grid.specs.Site.{Site, place_of}
+use Rattle.grid.specs.declared.site.Site.{Site}
+use Rattle.grid.specs.Site.{place_of}
 use Rattle.table.specs.Words.{Words}
 use Rattle.filter.specs.Query.{found, laid_over}
 use Rattle.filter.specs.Rows.{Rows, rows, laid_in, Room}

@@ -1,8 +1,8 @@
 // One axis of a rectangle: a stretch of steps. What serves both axes is here, once.
-ghost use Rattle.std.specs.Prelude.{◌≡◌, ◌+◌, ◌-◌, ◌*◌, ◌<◌, min, max};
+ghost use Rattle.std.specs.Prelude.{◌≡◌, ◌+◌, ◌-◌, ◌*◌};
 ghost use Rattle.axis.specs.Axis.{OnGrid, SpanOnGrid, sq, span_grown, span_length, span_sum, gap};
 
-#[derive(Clone, Copy)]
+#[derive(Clone, Copy, PartialEq, Eq)]
 pub struct Span {
     pub low: u64,
     pub high: u64,
@@ -12,19 +12,7 @@ pub struct Span {
 pub fn beyond(a: u64, b: u64) -> u64
     ensures { result ≡ a - b }
 {
-    if b < a { a - b } else { 0 }
-}
-
-pub(crate) fn lesser(a: u64, b: u64) -> u64
-    ensures { result ≡ min a b }
-{
-    if a < b { a } else { b }
-}
-
-pub(crate) fn greater(a: u64, b: u64) -> u64
-    ensures { result ≡ max a b }
-{
-    if a < b { b } else { a }
+    a.saturating_sub(b)
 }
 
 // The squared distance of two coordinates. The square of a signed difference does not ask which is the greater.
@@ -42,8 +30,8 @@ impl Span {
         ensures { result ≡ span_grown self other }
     {
         Span {
-            low: lesser(self.low, other.low),
-            high: greater(self.high, other.high),
+            low: self.low.min(other.low),
+            high: self.high.max(other.high),
         }
     }
 

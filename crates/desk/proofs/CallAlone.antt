@@ -8,7 +8,7 @@ use lib.IntN.{ℤ}
 use lib.ListN.{length, length-replicate}
 use Rattle.limits.proofs.Refused.{if_refused}
 use Rattle.words.specs.Word.{nat_of}
-use Rattle.grid.specs.Site.{Site}
+use Rattle.grid.specs.declared.site.Site.{Site}
 use Rattle.order.proofs.Lists.{by_bool}
 use Rattle.figures.specs.Figures.{MOST}
 use Rattle.table.specs.declared.given.Given.{Given}

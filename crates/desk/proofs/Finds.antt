@@ -7,8 +7,8 @@ use mathlib.Core.List.{List, [], map}
 use lib.IntN.{ℤ}
 use lib.ListN.{length, length-map}
 use Rattle.words.specs.Word.{IsWord, nat_of}
-use Rattle.grid.specs.Site.{Site}
-use Rattle.grid.proofs.Site.{SiteOnGrid}
+use Rattle.grid.specs.declared.site.Site.{Site}
+use Rattle.grid.proofs.Sites.{SiteOnGrid}
 use Rattle.order.specs.Lists.{filter, All}
 use Rattle.order.proofs.Lists.{length_filter, filter_mem, all_mem, mem_all, all_perm, all_then, all_map, count_most}
 use Rattle.order.proofs.Order.{sort_perm, sort_length}

@@ -8,8 +8,8 @@ use lib.IntN.{ℤ}
 use lib.ListN.{length}
 use borrow.Author.Tests.{eqb-true, eq-eqb, leb-true, leb-false, ltb-true, ltb-false, le-ltb, not-false}
 use Rattle.words.specs.Word.{nat_of, on_grid}
-use Rattle.grid.specs.Site.{Site}
-use Rattle.grid.proofs.Site.{SiteOnGrid}
+use Rattle.grid.specs.declared.site.Site.{Site}
+use Rattle.grid.proofs.Sites.{SiteOnGrid}
 use Rattle.order.specs.Lists.{All}
 use Rattle.order.proofs.Lists.{by_bool, and_left, and_right}
 use Rattle.table.specs.declared.given.Given.TheVariants.{

@@ -11,9 +11,9 @@ use lib.IntN.{ℤ}
 use lib.ListN.{length}
 use borrow.Author.Tests.{eqb-true, eq-eqb, ne_eqb}
 use Rattle.words.specs.Word.{nat_of, steps_of, word_of, on_grid}
-use Rattle.grid.specs.Site.{Site}
+use Rattle.grid.specs.declared.site.Site.{Site}
 use Rattle.words.proofs.Words.{word_steps, steps_test, grid_word}
-use Rattle.grid.proofs.Site.{SiteOnGrid}
+use Rattle.grid.proofs.Sites.{SiteOnGrid}
 use Rattle.order.specs.Lists.{filter, some, has, Mem, All, NoDup}
 use Rattle.order.specs.Order.{Perm, pnil, pskip, ptrans}
 use Rattle.order.proofs.Perm.{prefl, psym, perm_map, perm_mem, perm_length}

@@ -7,7 +7,7 @@ use mathlib.Core.List.Memᴰ
 use mathlib.Core.List.{◌∷◌}
 use lib.IntN.{ℤ}
 use Rattle.words.specs.Word.{nat_of}
-use Rattle.grid.specs.Site.{Site}
+use Rattle.grid.specs.declared.site.Site.{Site}
 use Rattle.order.proofs.Lists.{by_bool, mem_all, has_mem}
 use Rattle.table.specs.declared.given.Given.TheVariants.{Done}
 use Rattle.table.specs.Words.{Words}

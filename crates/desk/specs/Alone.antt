@@ -1,7 +1,7 @@
 -- A query that hands back the answers alone. Its candidate list, of 500, nobody sees: it writes on a slate that is lent to it.
 use Rattle.std.specs.Prelude.{ℕ, ◌≡◌, List, ℤ, length, replicate}
 use Rattle.words.specs.Word.{nat_of}
-use Rattle.grid.specs.Site.{Site}
+use Rattle.grid.specs.declared.site.Site.{Site}
 use Rattle.figures.specs.Figures.{MOST}
 use Rattle.table.specs.Words.{Words}
 use Rattle.record.specs.declared.Candidate.{Candidate}

@@ -1,7 +1,8 @@
 -- What each call gives back and leaves behind. A refusal changes nothing and has zero counts, but for 10: of the query, and of the card.
 use Rattle.std.specs.Prelude.{ℕ, List, ℤ, length}
 use Rattle.words.specs.Word.{nat_of}
-use Rattle.grid.specs.Site.{Site, place_of}
+use Rattle.grid.specs.declared.site.Site.{Site}
+use Rattle.grid.specs.Site.{place_of}
 use Rattle.grid.specs.Place.{spot_of}
 use Rattle.table.specs.declared.node.Entry.{Entry}
 use Rattle.table.specs.Words.{Words}

@@ -1,7 +1,7 @@
 -- The three demands of the mission, as statements about the calls of `Calls.antt`.
 use Rattle.std.specs.Prelude.{ℕ, ◌≤◌, ◌<◌, ◌≡◌, true, false, not, List, [], ◌∷◌, map, ◌⊎◌, eqb, ℤ, length}
 use Rattle.words.specs.Word.{IsWord, nat_of}
-use Rattle.grid.specs.Site.{Site}
+use Rattle.grid.specs.declared.site.Site.{Site}
 use Rattle.order.specs.Order.{Perm}
 use Rattle.order.specs.Lists.{count, filter, Mem, All}
 use Rattle.table.specs.declared.given.Given.{Given}

@@ -1,6 +1,6 @@
 -- A query as the code has it: the candidate list is lent as a row of records.
 use Rattle.std.specs.Prelude.{ℕ, ◌≡◌, List, ℤ}
-use Rattle.grid.specs.Site.{Site}
+use Rattle.grid.specs.declared.site.Site.{Site}
 use Rattle.table.specs.Words.{Words}
 use Rattle.record.specs.declared.Candidate.{Candidate}
 use Rattle.refusals.specs.declared.answered.Answered.{Answered}

@@ -2,7 +2,7 @@
 -- It speaks of the calls and of the enrolled stations, not of trees.
 use Rattle.std.specs.Prelude.{ℕ, ◌<◌, ◌≡◌, true, false, ℤ}
 use Rattle.words.specs.Word.{nat_of}
-use Rattle.grid.specs.Site.{Site}
+use Rattle.grid.specs.declared.site.Site.{Site}
 use Rattle.order.specs.Lists.{Mem, All}
 use Rattle.table.specs.declared.given.Given.TheVariants.{Done}
 use Rattle.table.specs.Words.{Words}

@@ -1,6 +1,6 @@
 -- 02 §4: each library call passes on the rule and the slot. What it gives with the number 2 is, word for word, what the check gives of the table.
 use Rattle.std.specs.Prelude.{ℕ, ◌≡◌, List, ℤ}
-use Rattle.grid.specs.Site.{Site}
+use Rattle.grid.specs.declared.site.Site.{Site}
 use Rattle.record.specs.declared.Candidate.{Candidate}
 use Rattle.table.specs.declared.given.Given.{Given}
 use Rattle.table.specs.Given.{number_given}

@@ -1,6 +1,6 @@
 -- How sharp the promises are: any two outcomes that the promise of a call permits are equal.
 use Rattle.std.specs.Prelude.{ℕ, ◌≡◌, List, ℤ}
-use Rattle.grid.specs.Site.{Site}
+use Rattle.grid.specs.declared.site.Site.{Site}
 use Rattle.table.specs.declared.given.Given.{Given}
 use Rattle.table.specs.Words.{Words}
 use Rattle.audit.specs.Check.{check_gives}

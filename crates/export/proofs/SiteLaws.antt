@@ -9,7 +9,8 @@ use lib.ListN.{length, get_or, take, set, length-map, get_or-map}
 use lib.Seq.{take-suc, take_all, length-take-le}
 use Rattle.limits.proofs.Refused.{if_refused}
 use Rattle.words.specs.Word.{nat_of}
-use Rattle.grid.specs.Site.{Site, site}
+use Rattle.grid.specs.declared.site.Site.{Site}
+use Rattle.grid.specs.Site.{site}
 use Rattle.table.specs.declared.given.Given.{Given}
 use Rattle.table.specs.declared.given.Given.TheVariants.{Done}
 use Rattle.figures.specs.Figures.{MOST}

@@ -2,7 +2,8 @@
 use Rattle.std.specs.Prelude.{ℕ, ℤ, length, take}
 use mathlib.Core.List.{List, map, zip_with}
 use Rattle.words.specs.Word.{nat_of}
-use Rattle.grid.specs.Site.{Site, site}
+use Rattle.grid.specs.declared.site.Site.{Site}
+use Rattle.grid.specs.Site.{site}
 use Rattle.figures.specs.Figures.{MOST}
 use Rattle.table.specs.Words.{Words}
 use Rattle.table.specs.Given.{if_done}

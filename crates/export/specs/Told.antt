@@ -1,6 +1,6 @@
 -- A query for C and Rust programs: its answer is a number, the three counts go to a lent row, and where the table is bad to another.
 use Rattle.std.specs.Prelude.{ℕ, ◌≡◌, cond, List, [], ◌∷◌, ltb, ℤ, length}
-use Rattle.grid.specs.Site.{Site}
+use Rattle.grid.specs.declared.site.Site.{Site}
 use Rattle.table.specs.Words.{Words}
 use Rattle.table.specs.Given.{number_given}
 use Rattle.filter.specs.Query.{Counts, laid_over}

@@ -6,7 +6,7 @@
 ghost use Rattle.std.specs.Prelude.{◌≡◌};
 ghost use Rattle.figures.specs.Figures.{FAN, LEAST, MOST, SLOTS, ENTRY, WIDTH, LENGTH, HIGHEST};
 
-// A table is lent as a slice of words; this type holds no data, only the figures.
+// This type holds no data, only the figures. A table itself is `Words`.
 #[derive(Clone, Copy)]
 pub struct Table {}
 
@@ -34,6 +34,9 @@ impl Table {
     // The highest point number.
     pub const HIGHEST: usize = 9999;
 }
+
+// The words of a table: the caller's, lent for each call. That there are LENGTH of them is said here, once.
+pub type Words = [i32; Table::LENGTH];
 
 // The figures as one value.
 #[derive(Clone, Copy)]

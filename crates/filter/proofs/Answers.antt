@@ -11,11 +11,12 @@ use lib.IntN.{ℤ, pos, negsuc}
 use lib.ListN.{length}
 use borrow.Author.Tests.{eqb-true, eqb-false, eq-eqb, ne_eqb, le-ltb}
 use Rattle.words.specs.Word.{IsWord, nat_of}
-use Rattle.grid.specs.Site.{Site, place_of, distance²}
+use Rattle.grid.specs.declared.site.Site.{Site}
+use Rattle.grid.specs.Site.{place_of, distance²}
 use Rattle.grid.specs.AsNear.{as_near, as_near_to}
 use Rattle.words.proofs.Words.{word_is, steps_word}
 use Rattle.grid.proofs.Rects.{place_ext}
-use Rattle.grid.proofs.Site.{SiteWords, SiteOnGrid, site_words, dist_sites}
+use Rattle.grid.proofs.Sites.{SiteWords, SiteOnGrid, site_words, dist_sites}
 use Rattle.order.specs.Lists.{count, one, filter, every, join, Mem, All, NoDup}
 use Rattle.order.specs.Order.{Perm, ptrans}
 use Rattle.order.proofs.Perm.{psym, perm_map}

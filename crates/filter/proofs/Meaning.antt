@@ -7,7 +7,7 @@ use mathlib.Core.List.Memᴰ
 use mathlib.Core.List.{List, [], ◌∷◌, map}
 use lib.ListN.{length}
 use borrow.Author.Tests.{lt-ltb, eq-eqb}
-use Rattle.grid.specs.Site.{Site}
+use Rattle.grid.specs.declared.site.Site.{Site}
 use Rattle.order.specs.Lists.{one, count, filter, Mem, All}
 use Rattle.order.proofs.Perm.{psym, perm_mem}
 use Rattle.order.proofs.Lists.{filter_mem, mem_filter, all_mem, count_less}

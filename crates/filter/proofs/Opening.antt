@@ -8,8 +8,9 @@ use borrow.Author.Tests.{eqb-true}
 use Rattle.words.specs.Word.{IsWord}
 use Rattle.grid.specs.declared.place.Place.{Place}
 use Rattle.grid.specs.Place.{Upright}
-use Rattle.grid.specs.Site.{Site, place_of}
-use Rattle.grid.proofs.Site.{SiteOnGrid, place_grid}
+use Rattle.grid.specs.declared.site.Site.{Site}
+use Rattle.grid.specs.Site.{place_of}
+use Rattle.grid.proofs.Sites.{SiteOnGrid, place_grid}
 use Rattle.order.specs.Lists.{All}
 use Rattle.order.proofs.Lists.{all_mem, all_map, and_left, and_right}
 use Rattle.table.specs.declared.node.Entry.{Entry}

@@ -1,6 +1,7 @@
 -- 01, "The query's meaning", as 02 §2 amends it: it speaks of the enrolled stations, and knows nothing of trees.
 use Rattle.std.specs.Prelude.{ℕ, Bool, not, ◌&&◌, List, map, eqb, ltb}
-use Rattle.grid.specs.Site.{Site, distance²}
+use Rattle.grid.specs.declared.site.Site.{Site}
+use Rattle.grid.specs.Site.{distance²}
 use Rattle.grid.specs.AsNear.{as_near}
 use Rattle.order.specs.Order.{sort_by}
 use Rattle.order.specs.Lists.{count, filter}

@@ -1,7 +1,8 @@
 -- A granted query: the candidate list, the answer list, and the three numbers.
 use Rattle.std.specs.Prelude.{ℕ, cond, List, [], ◌++◌, map, length, drop}
 use Rattle.words.specs.Word.{word_of}
-use Rattle.grid.specs.Site.{Site, place_of}
+use Rattle.grid.specs.declared.site.Site.{Site}
+use Rattle.grid.specs.Site.{place_of}
 use Rattle.grid.specs.Place.{dist²}
 use Rattle.order.specs.Lists.{filter}
 use Rattle.record.specs.declared.Candidate.{Candidate}

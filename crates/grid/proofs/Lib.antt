@@ -1,3 +1,3 @@
 pub mod Rects
 pub mod AsNear
-pub mod Site
+pub mod Sites

@@ -1,11 +1,8 @@
 -- 01, "The query's meaning": places with whole-number coordinates, and squared straight-line distances between them.
 use Rattle.std.specs.Prelude.{ℕ, ◌+◌, ◌*◌, ℤ, nat_abs, ◌-ℤ◌}
 use Rattle.grid.specs.declared.place.Place.{Place}
+use Rattle.grid.specs.declared.site.Site.{Site}
 use Rattle.words.specs.Word.{steps_of}
-
-pub record Site : Type 0 where
-  pub x : ℤ
-  pub y : ℤ
 
 abbrev pub site : ℤ → ℤ → Site
 site a b = record { x = a; y = b }

@@ -5,3 +5,4 @@
 
 pub mod place;
 pub mod rect;
+pub mod site;

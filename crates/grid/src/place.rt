@@ -6,7 +6,7 @@ ghost use Rattle.grid.specs.AsNear.{as_near};
 use crate::rect::Rect;
 use axis::span::{Span, square};
 
-#[derive(Clone, Copy)]
+#[derive(Clone, Copy, PartialEq, Eq)]
 pub struct Place {
     pub x: u64,
     pub y: u64,

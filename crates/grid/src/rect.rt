@@ -5,13 +5,13 @@ ghost use Rattle.grid.specs.Place.{PlaceOnGrid, RectOnGrid, rect_grown, area_of,
 use crate::place::Place;
 use axis::span::{Span, beyond};
 
-#[derive(Clone, Copy)]
+#[derive(Clone, Copy, PartialEq, Eq)]
 pub struct Rect {
     pub x: Span,
     pub y: Span,
 }
 
-#[derive(Clone, Copy)]
+#[derive(Clone, Copy, PartialEq, Eq)]
 pub enum Axis {
     X,
     Y,

@@ -1,7 +1,7 @@
 -- 01, "Numbers given back": the lines that speak of numbers alone and of no table.
 use Rattle.std.specs.Prelude.{Bool, not, ◌&&◌, ℤ}
 use Rattle.words.specs.Word.{nat_of, on_grid}
-use Rattle.grid.specs.Site.{Site}
+use Rattle.grid.specs.declared.site.Site.{Site}
 use Rattle.figures.specs.Figures.{HIGHEST}
 use Rattle.table.specs.Words.{between}
 

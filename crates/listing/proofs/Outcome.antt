@@ -3,8 +3,9 @@ use Prim.Native.Nat.{ℕ, ◌≤◌}
 use native.Mathlib.Omega.{arith}
 use mathlib.Core.Path.{◌≡◌, sym, ap, ◌∙◌}
 use mathlib.Core.List.{List, map, map-map}
-use Rattle.grid.specs.Site.{Site, place_of}
-use Rattle.grid.proofs.Site.{SiteOnGrid, place_grid}
+use Rattle.grid.specs.declared.site.Site.{Site}
+use Rattle.grid.specs.Site.{place_of}
+use Rattle.grid.proofs.Sites.{SiteOnGrid, place_grid}
 use Rattle.order.specs.Order.{up_from}
 use Rattle.table.specs.Words.{Words, points_of}
 use Rattle.rules.specs.Rules.{Passing}

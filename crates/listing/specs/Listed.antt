@@ -1,7 +1,7 @@
 -- A query that lists its candidates too: what it asks, and what it leaves.
 use Rattle.std.specs.Prelude.{ℕ, ◌≤◌, ◌≡◌, true, List, length}
 use Rattle.words.specs.Word.{on_grid}
-use Rattle.grid.specs.Site.{Site}
+use Rattle.grid.specs.declared.site.Site.{Site}
 use Rattle.table.specs.Words.{Words, points_of}
 use Rattle.rules.specs.Rules.{Passing}
 use Rattle.filter.specs.Query.{found, records_found, answers_found, laid_over}

@@ -1,7 +1,8 @@
 -- The records that a walk's rows of numbers, x and y make.
 use Rattle.std.specs.Prelude.{ℕ, ◌≤◌, ◌<◌, List, map, length, get_or}
 use Rattle.grid.specs.Place.{PlaceOnGrid, spot_of}
-use Rattle.grid.specs.Site.{Site, place_of}
+use Rattle.grid.specs.declared.site.Site.{Site}
+use Rattle.grid.specs.Site.{place_of}
 use Rattle.leads.specs.Leads.{place_in}
 use Rattle.order.specs.Order.{up_from}
 use Rattle.filter.specs.Query.{record_of}

@@ -16,7 +16,7 @@ use Rattle.grid.specs.declared.place.Place.{Place}
 use Rattle.grid.specs.Place.{PlaceOnGrid, dist²}
 use Rattle.grid.specs.Site.{distance², place_of}
 use Rattle.grid.proofs.Rects.{dist_most}
-use Rattle.grid.proofs.Site.{dist_sites}
+use Rattle.grid.proofs.Sites.{dist_sites}
 use Rattle.order.specs.Lists.{count, filter, join, Mem, All, Rises}
 use Rattle.order.specs.Order.{sort_by, least, ptrans, NONE}
 use Rattle.order.proofs.Perm.{psym, perm_map}

@@ -1,7 +1,7 @@
 -- 01, "Numbers given back", and 02: when each line holds, and the order in which each call checks them. Lines 1 and 2, of the table itself, and the check's order stand with the check; lines 3, 4 and 5, of what is asked alone, in limits.
 use Rattle.std.specs.Prelude.{ℕ, Bool, not, List, [], ◌∷◌, map, leb, ltb, ℤ, length}
 use Rattle.words.specs.Word.{nat_of}
-use Rattle.grid.specs.Site.{Site}
+use Rattle.grid.specs.declared.site.Site.{Site}
 use Rattle.order.specs.Lists.{has}
 use Rattle.figures.specs.Figures.{MOST}
 use Rattle.table.specs.Words.{Words, points_of}

@@ -11,7 +11,8 @@ use Rattle.axis.specs.Axis.{apart, sq, gap}
 use Rattle.words.specs.Word.{steps_of, word_of}
 use Rattle.grid.specs.Place.{dist², area_of, growth_of, longer_axis, least_square}
 use Rattle.grid.specs.AsNear.{as_near, as_near_to, corners_as_near}
-use Rattle.grid.specs.Site.{Site, site, square_apart, distance²}
+use Rattle.grid.specs.declared.site.Site.{Site}
+use Rattle.grid.specs.Site.{site, square_apart, distance²}
 use Rattle.order.specs.Lists.{filter}
 use Rattle.table.specs.declared.node.Entry.{Entry}
 use Rattle.table.specs.Words.{Words, root_of, part_at, placed}

@@ -3,7 +3,8 @@ use Rattle.std.specs.Prelude.{ℕ, zero, suc, ◌*◌, ◌≡◌, true, List, []
 use Rattle.grid.specs.declared.place.Place.{Place}
 use Rattle.grid.specs.declared.rect.Rect.{Rect}
 use Rattle.words.specs.Word.{steps_of}
-use Rattle.grid.specs.Site.{Site, site, place_of}
+use Rattle.grid.specs.declared.site.Site.{Site}
+use Rattle.grid.specs.Site.{site, place_of}
 use Rattle.grid.specs.AsNear.{corners_as_near}
 use Rattle.table.specs.Words.{Words, root_of}
 use Rattle.table.specs.Slots.{entries_at, entry_for}

@@ -2,7 +2,7 @@
 use Rattle.std.specs.Prelude.{ℕ, ◌+◌, ◌*◌, Bool, cond, ◌&&◌, List, [], map, eqb}
 use Rattle.axis.specs.Axis.{step_on_grid}
 use Rattle.words.specs.Word.{nat_of, word_of}
-use Rattle.grid.specs.Site.{Site}
+use Rattle.grid.specs.declared.site.Site.{Site}
 use Rattle.axis.specs.declared.span.Span.{Span}
 use Rattle.order.specs.Order.{up_from}
 use Rattle.order.specs.Lists.{join}

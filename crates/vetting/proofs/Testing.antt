@@ -11,9 +11,10 @@ use borrow.Author.Tests.{lt-ltb, le-ltb}
 use Rattle.words.specs.Word.{IsWord}
 use Rattle.grid.specs.declared.place.Place.{Place}
 use Rattle.grid.specs.Place.{dist²}
-use Rattle.grid.specs.Site.{Site, place_of}
+use Rattle.grid.specs.declared.site.Site.{Site}
+use Rattle.grid.specs.Site.{place_of}
 use Rattle.grid.specs.AsNear.{as_near_to}
-use Rattle.grid.proofs.Site.{SiteOnGrid}
+use Rattle.grid.proofs.Sites.{SiteOnGrid}
 use Rattle.order.specs.Lists.{count, join, All}
 use Rattle.order.proofs.Lists.{count_most, count_map, count_same}
 use Rattle.order.proofs.Order.{up_all}

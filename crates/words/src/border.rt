@@ -20,10 +20,7 @@ pub fn steps(w: i32) -> u64
 pub fn step_on_grid(s: u64) -> bool
     ensures { result ≡ step_on_grid s }
 {
-    if s < 2147483648 - REACH {
-        return false;
-    }
-    s <= 2147483648 + REACH
+    (2147483648 - REACH..=2147483648 + REACH).contains(&s)
 }
 
 // Whether a number that comes from outside is a coordinate on the grid.
@@ -45,7 +42,7 @@ pub fn steps_at(words: &[i32], at: usize) -> u64
 pub fn natural(w: i32) -> usize
     ensures { result ≡ nat_of w }
 {
-    ((steps(w) + 2147483648) % 4294967296) as usize
+    w.cast_unsigned() as usize
 }
 
 pub fn natural_at(words: &[i32], at: usize) -> usize

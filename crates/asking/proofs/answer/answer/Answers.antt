@@ -1,5 +1,5 @@
 -- `asking::answer::answer` meets its contract: the walk, the final test of its candidates, and the answers, by the laws of `proofs/Outcome.antt`. Assumes nothing.
-use Rattle.grid.proofs.Site.{SiteOnGrid, site_passed}
+use Rattle.grid.proofs.Sites.{SiteOnGrid, site_passed}
 use Rattle.asking.proofs.Outcome.{keepable_so, replies_so}
 use Rattle.asking.proofs.answer.answer.Goals as goal
 

@@ -16,7 +16,7 @@ use Rattle.limits.proofs.CallTests.{three_passed, two_back}
 use Rattle.refusals.proofs.QueryOrder.{answers_told}
 use Rattle.desk.specs.Alone.{AnswersAlone}
 use Rattle.filter.proofs.Turns.{room_less}
-use Rattle.grid.proofs.Site.{site_passed}
+use Rattle.grid.proofs.Sites.{site_passed}
 use Rattle.desk.proofs.Granted.{QueryReady, query_granted}
 use Rattle.desk.proofs.CallList.{refused_not_done, not_refused_done}
 use Rattle.desk.proofs.CallAlone.{alone_refused, alone_told}

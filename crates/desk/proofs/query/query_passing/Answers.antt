@@ -3,8 +3,9 @@ use Prim.Native.Nat.{ℕ}
 use mathlib.Core.Path.{sym, ap, subst, ◌∙◌}
 use lib.ListN.{length}
 use Rattle.words.proofs.Machine.{natural_passed}
-use Rattle.grid.specs.Site.{Site, site}
-use Rattle.grid.proofs.Site.{site_passed}
+use Rattle.grid.specs.declared.site.Site.{Site}
+use Rattle.grid.specs.Site.{site}
+use Rattle.grid.proofs.Sites.{site_passed}
 use Rattle.rules.specs.Rules.{Passing}
 use Rattle.listing.specs.Listed.{Listable, Listed}
 use Rattle.refusals.specs.declared.answered.Answered.{Answered}

@@ -1,9 +1,10 @@
 -- `filter::find::find` meets its contract: the empty table is told by its points, and from the root of any other the walk has room. Assumes nothing.
 use native.Mathlib.Omega.{arith}
 use mathlib.Core.Path.{◌≡◌, refl, sym, ap, ◌∙◌}
-use Rattle.grid.specs.Site.{Site, place_of}
+use Rattle.grid.specs.declared.site.Site.{Site}
+use Rattle.grid.specs.Site.{place_of}
 use Rattle.words.proofs.Words.{word_fits, grid_word}
-use Rattle.grid.proofs.Site.{SiteOnGrid, site_passed}
+use Rattle.grid.proofs.Sites.{SiteOnGrid, site_passed}
 use Rattle.table.specs.Words.{points_of}
 use Rattle.table.specs.Slots.{level_at}
 use Rattle.filter.proofs.NodeTurns.{passable_slot}

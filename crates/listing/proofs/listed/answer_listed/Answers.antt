@@ -5,8 +5,8 @@ use Prim.Native.Nat.{ℕ}
 use mathlib.Core.Path.{◌≡◌, sym, subst}
 use mathlib.Core.List.{List}
 use lib.ListN.{length}
-use Rattle.grid.specs.Site.{Site}
-use Rattle.grid.proofs.Site.{SiteOnGrid, site_passed}
+use Rattle.grid.specs.declared.site.Site.{Site}
+use Rattle.grid.proofs.Sites.{SiteOnGrid, site_passed}
 use Rattle.table.specs.Words.{Words, points_of}
 use Rattle.rules.specs.Rules.{Passing}
 use Rattle.filter.specs.Rows.{rows}
