@@ -29,7 +29,7 @@ use Rattle.filter.specs.Query.{found, answers_found, laid_over}
 use Rattle.filter.specs.Rows.{Rows, listed, laid_in, Room, Kept, Noted}
 use Rattle.filter.proofs.Answers.{found_points, found_few, found_crowded}
 use Rattle.filter.proofs.Rising.{filter_map, filter_same}
-use Rattle.filter.proofs.Rows.{listed_back, rows_kept}
+use Rattle.filter.proofs.RowLaws.{listed_back, rows_kept}
 use Rattle.filter.proofs.Turns.{room_less}
 use Rattle.vetting.specs.Tested.{passes_as, as_near_among, numbers_passing, Keepable}
 use Rattle.vetting.proofs.Listing.{rising_length}

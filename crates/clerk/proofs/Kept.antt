@@ -20,7 +20,7 @@ use Rattle.desk.specs.Demands.{enrol, withdraw}
 use Rattle.refusals.proofs.Given.{by_given}
 use Rattle.desk.proofs.Granted.{query_granted, card_granted}
 use Rattle.desk.proofs.Kept.{call_kept}
-use Rattle.filter.proofs.Rows.{laid_length}
+use Rattle.filter.proofs.RowLaws.{laid_length}
 use Rattle.sheet.specs.Bytes.{Bytes}
 use Rattle.jobs.specs.declared.job.Job.{Job}
 use Rattle.jobs.specs.declared.job.Job.TheVariants.{Enrol, Withdraw, Query, Card, MissingK, Misshapen}

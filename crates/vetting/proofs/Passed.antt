@@ -20,9 +20,9 @@ use Rattle.table.specs.Words.{Words}
 use Rattle.filter.specs.Query.{laid_over}
 use Rattle.filter.specs.Walk.{spot_in}
 use Rattle.filter.specs.Rows.{Rows, listed}
-use Rattle.filter.proofs.Rows.{listed_length, listed_at, listed_count}
+use Rattle.filter.proofs.RowLaws.{listed_length, listed_at, listed_count}
 use Rattle.filter.proofs.Rising.{filter_append}
-use Rattle.filter.proofs.Rows.{laid_set}
+use Rattle.filter.proofs.RowLaws.{laid_set}
 use Rattle.vetting.specs.Test.{passes}
 use Rattle.vetting.specs.Tested.{passes_as, as_near_among, numbers_passing, Keepable}
 

@@ -2,7 +2,7 @@
 -- Assumes nothing.
 use native.Mathlib.Omega.{arith}
 use mathlib.Core.Path.{◌≡◌}
-use Rattle.filter.proofs.Rows.{kept_standing}
+use Rattle.filter.proofs.RowLaws.{kept_standing}
 use Rattle.vetting.proofs.Passed.{numbered_none, crowded_at, numbered_at, numbered_all}
 use Rattle.vetting.proofs.keep.keep_passing.Goals as goal
 

@@ -178,3 +178,7 @@ kept_standing {q} {r} {m} g k = record {
   grid = λ i h. let p : Point (entry_in q r i) = point (entry_in q r i) (kept_point k i h) in record { x = p.x.grid; y = p.y.grid };
   bar = kept_bar k;
 }
+
+-- also where the tests read them
+pub kept_read : {q : Place} {r : Rows} {m : ℕ} {xs ys bars : List ℕ} → xs ≡ r.xs → ys ≡ r.ys → bars ≡ r.bars → PlaceOnGrid q → Kept q r m → Standing q xs ys bars m
+kept_read ex ey eb g k = rw (ex, ey, eb) (kept_standing g k)

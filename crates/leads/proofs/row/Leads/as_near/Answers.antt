@@ -1,4 +1,4 @@
--- `leads::count::as_near` meets its contract. The loop's invariant: `n` counts those of the first `i` candidates whose bar the place's sum reaches. The measure is what is left of the candidates. Assumes nothing.
+-- `leads::row::Leads::as_near` meets its contract. The loop's invariant: `n` counts those of the first `i` candidates whose bar the place's sum reaches. Assumes nothing.
 use Prim.Native.Nat.{ℕ, ◌*◌}
 use native.Mathlib.Omega.{arith}
 use mathlib.Core.Path.{◌≡◌, refl, ◌∙◌}
@@ -6,7 +6,7 @@ use mathlib.Core.Bool.{Bool}
 use Rattle.order.proofs.Lists.{one_most}
 use Rattle.order.proofs.Order.{tally}
 use Rattle.leads.proofs.Laws.{below_x, below_y, bar_most, place_test, counted}
-use Rattle.leads.proofs.count.as_near.Goals as goal
+use Rattle.leads.proofs.row.Leads.as_near.Goals as goal
 
 pub reaches-n-requires : goal.reaches-n-requires
 reaches-n-requires c =
@@ -26,11 +26,10 @@ pub loop-i-preserved : goal.loop-i-preserved
 loop-i-preserved c =
     let Test : ℕ → Bool =
     let a = c.args in
-    place_test a.xs.now a.ys.now a.bars.now (2 * c.from_q-px.result) (2 * c.from_q-py.result) in
+    place_test a.self.xs.now a.self.ys.now a.self.bars.now (2 * c.from_q-px.result) (2 * c.from_q-py.result) in
     let l = c.loop-i in (
-      omega arith,
       omega (arith, c.reaches-n.ensures, one_most (Test l.i)),
-      omega (arith, c.reaches-n.ensures, tally (Test) l.i l.n (Test l.i) refl l.invariant.2),
+      omega (arith, c.reaches-n.ensures, tally (Test) l.i l.n (Test l.i) refl l.invariant.1),
     )
 
 pub returns : goal.returns
@@ -40,4 +39,4 @@ returns c =
     let e : l.i ≡ a.m = omega arith in
     let fx = c.from_q-px.ensures in
     let fy = c.from_q-py.ensures in
-    rw (← e) (l.invariant.2 ∙ rw (fx, fy, e) (counted c.requires.2 c.requires.0 a.p c.requires.1))
+    rw (← e) (l.invariant.1 ∙ rw (fx, fy, e) (counted c.requires.2 c.requires.0 a.p c.requires.1))
