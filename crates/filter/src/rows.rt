@@ -35,7 +35,7 @@ impl Rows<'_> {
     }
 
     // The next of each row becomes that of the point.
-    pub fn note(&mut self, at: usize, e: Entry, q: Place)
+    pub(crate) fn note(&mut self, at: usize, e: Entry, q: Place)
         requires at_in_bounds { (at < length self.old.numbers.now) × (at < length self.old.xs.now) × (at < length self.old.ys.now) × (at < length self.old.bars.now) }
         requires e_value { (is_point e ≡ true) × PlaceOnGrid q }
         ensures number { self.new.numbers.now ≡ set self.old.numbers.now at e.reference }
