@@ -9,13 +9,13 @@ ghost use Rattle.clerk.specs.Running.{lent, longest_line, rest_output, stand_at}
 
 use clerk::run::run_lines;
 use clerk::start::clear;
-use figures::Table;
+use figures::{Table, Words};
 use post::write_all;
 use sheet::marks::LONGEST;
-use slip::put_line;
+use slip::Slip;
 use std::io;
 use std::io::Write;
-use table::given::{Given, number_given};
+use table::given::{Refusal, number_given};
 
 // The bytes that are written at a time.
 const ROOM: usize = 65536;
@@ -24,7 +24,7 @@ const ROOM: usize = 65536;
 fn answer_lines<W: Write>(
     sheet: &[u8],
     output: &mut W,
-    table: &mut [i32],
+    table: &mut Words,
     answers: &mut [u32],
     out: &mut [u8],
 ) -> io::Result<()>
@@ -61,7 +61,9 @@ fn put_too_long(out: &mut [u8]) -> usize
     requires { 44 ≤ length out.old }
     ensures { Laid out.old 0 too_long_line out.new result }
 {
-    put_line(out, 0, 0, b'?', number_given(Given::SheetTooLong))
+    let mut slip = Slip { out, at: 0 };
+    slip.line(0, b'?', number_given(Err(Refusal::SheetTooLong)));
+    slip.at
 }
 
 // Of a sheet too long no line is run.
