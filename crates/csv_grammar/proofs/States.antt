@@ -82,6 +82,10 @@ pub text_closed : OnText Closed Broken
 unfolding sound_from
 text_closed b e bs = rw (text_unquoted b e)
 
+pub text_broken : OnText Broken Broken
+unfolding sound_from
+text_broken b e bs = refl
+
 -- any other byte breaks the field, wherever the reader stands
 pub other_breaks : (state : State) (b : ℕ) → is_text b ≡ false → (b ≡ QUOTE → ⊥) → (b ≡ COMMA → ⊥) → (b ≡ RETURN → ⊥) → (b ≡ FEED → ⊥)
     → Leads state b Broken

@@ -10,10 +10,8 @@ pub fn field<'a>(item: &'a [u8], i: usize) -> &'a [u8]
     ensures { result.now ≡ get_or (parts_of Comma item.now) i [] }
 {
     let mut at = 0;
-    let mut left = i;
-    while left > 0 {
+    for _ in 0..i {
         at = next_at(item, at, Mark::Comma);
-        left -= 1;
     }
     part_at(item, at, Mark::Comma)
 }

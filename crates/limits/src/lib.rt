@@ -4,40 +4,29 @@
 #![tactic(auto)]
 
 ghost use Rattle.std.specs.Prelude.{◌≡◌};
-ghost use Rattle.grid.specs.Site.{site};
 ghost use Rattle.limits.specs.Limits.{no_such_number, off_grid, no_such_k};
 
 use figures::Table;
+use grid::site::Site;
 use words::border;
 
 // 3: point number outside 1 to 9,999.
 pub fn no_such_number(number: i32) -> bool
     ensures { result ≡ no_such_number number }
 {
-    let n = border::natural(number);
-    if n < 1 {
-        return true;
-    }
-    Table::HIGHEST < n
+    !(1..=Table::HIGHEST).contains(&border::natural(number))
 }
 
 // 4: a coordinate off the grid.
-pub fn off_grid(x: i32, y: i32) -> bool
-    ensures { result ≡ off_grid (site x y) }
+pub fn off_grid(p: Site) -> bool
+    ensures { result ≡ off_grid p }
 {
-    if !border::on_grid(x) {
-        return true;
-    }
-    !border::on_grid(y)
+    !border::on_grid(p.x) || !border::on_grid(p.y)
 }
 
 // 5: k outside 1 to 16.
 pub fn no_such_k(k: i32) -> bool
     ensures { result ≡ no_such_k k }
 {
-    let least = border::natural(k);
-    if least < 1 {
-        return true;
-    }
-    16 < least
+    !(1..=16).contains(&border::natural(k))
 }

@@ -7,7 +7,7 @@ use mathlib.Core.List.Memᴰ
 use mathlib.Core.List.{List, [], ◌∷◌, ◌++◌}
 use native.Mathlib.Numerals.{add-one}
 use lib.ListN.{length, take, get_or}
-use lib.Seq.{take-suc, length-take-le}
+use lib.Seq.{take-suc}
 use Rattle.axis.specs.declared.span.Span.{Span}
 use Rattle.grid.specs.declared.rect.Rect.{Rect}
 use Rattle.axis.specs.Axis.{SpanWithin}
@@ -46,15 +46,10 @@ cover_one e = refl
 pub cover_snoc : (es : List Entry) (e : Entry) → 0 < length es → cover_of (es ++ e ∷ []) ≡ rect_grown (cover_of es) e.rect
 cover_snoc es e h = cover_append es (e ∷ []) h (omega arith) ∙ rw cover_one
 
--- a loop over the entries, at its first turn and at each later one
-pub cover_first : (es : List Entry) (d : Entry) → 0 < length es → cover_of (take 1 es) ≡ (get_or es 0 d).rect
-cover_first es d h = rw (take-suc es 0 d h) (cover_one (get_or es 0 d))
-
-pub cover_step : (es : List Entry) (k : ℕ) (d : Entry) → 0 < k → k < length es
-    → cover_of (take (k + 1) es) ≡ rect_grown (cover_of (take k es)) (get_or es k d).rect
-cover_step es k d g h =
-    let t = length-take-le k es (omega arith) in
-    rw (add-one, take-suc es k d h) (cover_snoc (take k es) (get_or es k d) (omega arith))
+-- a loop over the entries, at each turn
+pub from_step : (r : Rect) (es : List Entry) (k : ℕ) (d : Entry) → k < length es
+    → cover_from r (take (k + 1) es) ≡ rect_grown (cover_from r (take k es)) (get_or es k d).rect
+from_step r es k d h = rw (add-one, take-suc es k d h) (from_append r (take k es) (get_or es k d ∷ []))
 
 -- ---- what holds of each, if it holds of what grows
 

@@ -1,12 +1,12 @@
 -- Laws of a node by value and of its page: equal by their fields, how long, which entries a page has, and a run of entries copied into a node's. Assumes nothing.
 use Prim.Native.Nat.{ℕ, zero, suc, ◌+◌, ◌-◌, ◌≤◌, ◌<◌}
 use mathlib.Core.Path.{◌≡◌, refl, sym, ap, subst, ◌∙◌}
-use mathlib.Core.List.{List, [], ◌∷◌, ◌++◌}
+use mathlib.Core.List.{List, [], ◌∷◌, ◌++◌, append_assoc}
 use native.Mathlib.Omega.{arith}
 use denote.Laws.{Is}
 use denote.Struct.Laws.{val}
-use lib.ListN.{length, take, drop, set, get_or, length-take, length-drop}
-use lib.Seq.{paste, paste-suc, length-paste, take-paste, drop-paste, length-take-le, take-nil, get_or-take, get_or-drop}
+use lib.ListN.{length, take, drop, set, get_or, length-take, length-append}
+use lib.Seq.{paste, paste-suc, length-paste, take-paste, length-take-le, take-nil, take-append_seam, get_or-take}
 use Rattle.table.specs.declared.node.Entry.{Entry}
 use Rattle.table.specs.declared.node.Node.{Node}
 use Rattle.table.specs.Page.{Page, page, held, shown, Shows, blank_entry}
@@ -21,9 +21,6 @@ entry_ext p q = λ i. record { reference = p i; rect = q i }
 pub page_ext : {p q : Page} → p.level ≡ q.level → p.entries ≡ q.entries → p ≡ q
 page_ext e f = λ i. record { level = e i; entries = f i }
 
-pub node_ext : {m n : Node} → m.level ≡ n.level → m.count ≡ n.count → m.entries ≡ n.entries → m ≡ n
-node_ext e f g = λ i. record { level = e i; count = f i; entries = g i }
-
 -- ---- how long
 
 -- what a proof knows of a node: of a parameter by `.good`, of a call's result by `.ok`
@@ -34,8 +31,8 @@ Owned n = Is the_row n (val the_type the_laws n ∷ [])
 pub full : (n : Node) → Owned n → length n.entries ≡ 10
 full n g = g.1.1.1.1.0.1.0.1
 
-pub held_length : (n : Node) → length n.entries ≡ 10 → n.count ≤ 10 → length (held n) ≡ n.count
-held_length n f h = length-take-le n.count n.entries (omega arith)
+pub held_length : (n : Node) → length n.entries ≡ 10 → length (held n) ≡ n.count
+held_length n f = length-take-le n.count n.entries (omega (arith, n.room))
 
 -- never more than the number says
 pub held_few : (n : Node) → length (held n) ≤ n.count
@@ -44,12 +41,26 @@ held_few n = omega (arith, length-take n.count n.entries)
 -- ---- the page that a node shows
 
 -- the number is that of the entries
-pub shows : (n : Node) (p : Page) → length n.entries ≡ 10 → n.count ≤ 10 → n.level ≡ p.level → held n ≡ p.entries → Shows n p
-shows n p f h l e = record { level = l; count = sym (held_length n f h) ∙ ap length e; entries = e }
+pub shows : (n : Node) (p : Page) → length n.entries ≡ 10 → n.level ≡ p.level → held n ≡ p.entries → Shows n p
+shows n p f l e = record { level = l; count = sym (held_length n f) ∙ ap length e; entries = e }
 
 -- each node shows its own page
-pub shows_self : (n : Node) → length n.entries ≡ 10 → n.count ≤ 10 → Shows n (shown n)
-shows_self n f h = shows n (shown n) f h refl refl
+pub shows_self : (n : Node) → length n.entries ≡ 10 → Shows n (shown n)
+shows_self n f = shows n (shown n) f refl refl
+
+-- the entries held are two runs, and what stands behind them does not count
+pub runs_show : (n : Node) (p : Page) (a b z : List Entry) → n.entries ≡ a ++ (b ++ z) → n.count ≡ length a + length b
+    → n.level ≡ p.level → a ++ b ≡ p.entries → Shows n p
+runs_show n p a b z made many l e =
+    record {
+      level = l;
+      count = many ∙ sym (length-append a b) ∙ ap length e;
+      entries =
+          ap (take n.count) (made ∙ sym (append_assoc a b z))
+          ∙ ap (λ k. take k ((a ++ b) ++ z)) (many ∙ sym (length-append a b))
+          ∙ take-append_seam (a ++ b) z
+          ∙ e;
+    }
 
 module _ {n : Node} {p : Page} (s : Shows n p) where
   pub shown_page : shown n ≡ p
@@ -66,7 +77,7 @@ module _ {n : Node} {p : Page} (s : Shows n p) where
   pub page_at_lem : (i : ℕ) (d : Entry) → i < n.count → get_or n.entries i d ≡ get_or p.entries i d
   page_at_lem i d h = sym (get_or-take n.count n.entries i d h) ∙ ap (λ es. get_or es i d) s.entries
 
--- ---- a run copied, one entry a turn
+-- ---- a run copied
 
 pub drop_take : {A : Type 0} (n m : ℕ) (l : List A) → drop n (take m l) ≡ take (m - n) (drop n l)
 drop_take zero m l =
@@ -80,7 +91,7 @@ drop_take (suc n) (suc m) (x ∷ l) =
     let e : m - n ≡ suc m - suc n = omega arith in
     drop_take n m l ∙ ap (λ k. take k (drop n l)) e
 
--- l is d with the first j elements of s copied to the place at
+-- one entry a turn: l is d with the first j elements of s copied to the place at
 module _ {A : Type 0} (d : List A) (at : ℕ) (s : List A) (j : ℕ) (z : A) (l : List A) (made : l ≡ paste d at s j) where
   -- the next store makes the copy of one more
   pub copy_more : (w : ℕ) (x : A) (k : ℕ) → w ≡ at + j → x ≡ get_or s j z → k ≡ suc j → at + j < length d → j < length s
@@ -90,28 +101,12 @@ module _ {A : Type 0} (d : List A) (at : ℕ) (s : List A) (j : ℕ) (z : A) (l 
   pub copy_front : (w : ℕ) → w ≡ at + j → at ≤ length d → j ≤ length s → take w l ≡ take at d ++ take j s
   copy_front w ew hd hs = cc (take-paste d at s j hd hs)
 
-  -- what stands behind is as it was
-  pub copy_behind : (r : ℕ) → at + j ≤ r → at ≤ length d → j ≤ length s → get_or l r z ≡ get_or d r z
-  copy_behind r h hd hs =
-      let e : r ≡ (at + j) + (r - (at + j)) = omega arith in
-      ap (λ k. get_or l k z) e ∙ sym (get_or-drop (at + j) l (r - (at + j)) z) ∙ ap (λ x. get_or x (r - (at + j)) z) (ap (drop (at + j)) made ∙ drop-paste d at s j hd hs)
-      ∙ get_or-drop (at + j) d (r - (at + j)) z ∙ ap (λ k. get_or d k z) (sym e)
-
--- the same where the run that is copied stands further behind in d itself
-pub move_more : {A : Type 0} (d : List A) (at b j : ℕ) (z : A) (l : List A) → l ≡ paste d at (drop b d) j → at ≤ b
-    → b + j < length d → (w r k : ℕ) → w ≡ at + j → r ≡ b + j → k ≡ suc j → set l w (get_or l r z) ≡ paste d at (drop b d) k
-move_more d at b j z l made h hd w r k ew er ek =
-    let g = length-drop b d in
-    copy_more d at (drop b d) j z l made w (get_or l r z) k ew
-    (copy_behind d at (drop b d) j z l made r (omega arith) (omega arith) (omega arith) ∙ rw (er, get_or-drop)) ek
-    (omega arith) (omega arith)
-
--- a loop that copies is done: the node, with its number set
-pub copy_shows : (n : Node) (d : List Entry) (at : ℕ) (s : List Entry) (j w : ℕ) (p : Page) → n.entries ≡ paste d at s j
-    → length d ≡ 10 → at + j ≤ 10 → j ≤ length s → w ≡ at + j → n.level ≡ p.level → take at d ++ take j s ≡ p.entries
-    → Shows (record { level = n.level; count = w; entries = n.entries }) p
-copy_shows n d at s j w p made f h hs ew l e =
-    shows (record { level = n.level; count = w; entries = n.entries }) p
+-- a copy is made: the node, with its number set
+pub copy_shows : (n : Node) (d : List Entry) (at : ℕ) (s : List Entry) (j : ℕ) (p : Page) → n.entries ≡ paste d at s j
+    → length d ≡ 10 → at + j ≤ 10 → j ≤ length s → n.count ≡ at + j → n.level ≡ p.level → take at d ++ take j s ≡ p.entries
+    → Shows n p
+copy_shows n d at s j p made f h hs ew l e =
+    shows n p
     (ap length made ∙ length-paste d at s j (omega arith) hs ∙ f)
-    (omega arith) l
-    (copy_front d at s j blank_entry n.entries made w ew (omega arith) hs ∙ e)
+    l
+    (copy_front d at s j blank_entry n.entries made n.count ew (omega arith) hs ∙ e)

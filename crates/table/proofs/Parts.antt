@@ -10,16 +10,16 @@ use borrow.Rule.Slice.PartMut.{put_mid}
 use borrow.Author.Tests.{eq-eqb, ne_eqb}
 use lib.Dec.{eqb}
 use lib.IntN.{ℤ, pos, negsuc}
-use lib.ListN.{length, get_or, take, drop, set, replicate, get_or-replicate}
-use lib.Seq.{drop-drop, take-suc, take-suc-set, take_all, length-take-le}
+use lib.ListN.{length, get_or, take, drop, set, replicate}
+use lib.Seq.{drop-drop, take-suc, take-suc-set, length-take-le}
 use Rattle.words.specs.Word.{steps_of, word_of}
 use Rattle.order.specs.Order.{up_from}
 use Rattle.table.specs.declared.node.Entry.{Entry}
 use Rattle.figures.specs.Figures.{FAN, ENTRY, WIDTH}
-use Rattle.table.specs.Words.{Words, word, is_minus_one, start_of, part_at, placed}
+use Rattle.table.specs.Words.{Words, is_minus_one, start_of, part_at, placed}
 use Rattle.table.specs.Page.{entry_words, entries_words, page, page_words, free_words}
 use Rattle.table.proofs.Placed.{placed_more}
-use Rattle.table.proofs.Slots.{entry_length, entries_length, entries_append, free_length}
+use Rattle.table.proofs.Slots.{entry_length, entries_length, entries_append}
 
 -- ---- the word −1
 
@@ -51,30 +51,6 @@ read_step f es i h e =
     (take-suc-set es i (f i) h
     ∙ ap (λ (x : List _). x ++ f i ∷ []) e
     ∙ sym (ap (map f) (up_last 0 i ∙ ap (λ (n : ℕ). up_from 0 i ++ n ∷ []) (zero-add i)) ∙ map-append f (up_from 0 i) (i ∷ [])))
-
--- ---- the loop that frees
-
-free_word : (at : ℕ) → 1 ≤ at → at < WIDTH → word free_words at ≡ pos 0
-unfolding free_words
-free_word zero h l = absurd (omega arith)
-free_word (suc at) h l = get_or-replicate (1 + ENTRY * FAN) at (pos 0) (pos 0) (omega arith)
-
-pub free_first : (ws : Words) → 1 ≤ length ws → take 1 (set ws 0 (word_of 2147483647)) ≡ take 1 free_words
-unfolding free_words
-free_first [] h = absurd (omega arith)
-free_first (w ∷ ws) h = ap (λ (z : ℤ). z ∷ []) none_word
-
-pub free_step : (ws : Words) (at : ℕ) → length ws ≡ WIDTH → 1 ≤ at → at < WIDTH → take at ws ≡ take at free_words
-    → take (at + 1) (set ws at (pos 0)) ≡ take (at + 1) free_words
-free_step ws at l h m e =
-    rw (add-one at)
-    (take-suc-set ws at (pos 0) (omega arith)
-    ∙ ap (λ (x : Words). x ++ pos 0 ∷ []) e
-    ∙ sym (take-suc free_words at (pos 0) (omega (arith, free_length)) ∙ ap (λ (z : ℤ). take at free_words ++ z ∷ []) (free_word at h m)))
-
-pub free_all : (ws : Words) (at : ℕ) → length ws ≡ WIDTH → WIDTH ≤ at → take at ws ≡ take at free_words → ws ≡ free_words
-free_all ws at l h e =
-    sym (take_all at ws (omega arith)) ∙ e ∙ take_all at free_words (omega (arith, free_length))
 
 -- ---- the loop that writes
 

@@ -1,11 +1,10 @@
 // A node by value: it goes out of the table, is worked on, and goes back in.
-ghost use Rattle.std.specs.Prelude.{◌≡◌, ◌+◌, ◌-◌, ◌≤◌, ◌<◌, [], ◌∷◌, ◌++◌, length, take, drop, set, get_or};
-ghost use Rattle.table.specs.Page.{page, held, shown, Shows, without as without_of, cover_of, blank_entry};
+ghost use Rattle.std.specs.Prelude.{◌≡◌, ◌+◌, ◌≤◌, ◌<◌};
 
 use axis::span::Span;
 use grid::rect::Rect;
 
-#[derive(Clone, Copy)]
+#[derive(Clone, Copy, PartialEq, Eq)]
 pub struct Entry {
     // A point number in a leaf, a child slot above.
     pub reference: usize,
@@ -18,31 +17,45 @@ pub struct Node {
     pub level: usize,
     pub count: usize,
     pub entries: [Entry; 10],
+    pub ghost room: { count ≤ 10 },
 }
 
-// What stands where no entry does.
-pub fn blank() -> Entry
-    ensures { result ≡ blank_entry }
-{
-    Entry {
-        reference: 0,
-        rect: Rect {
-            x: Span { low: 0, high: 0 },
-            y: Span { low: 0, high: 0 },
-        },
+impl Entry {
+    ghost use Rattle.table.specs.Page.{blank_entry};
+
+    // What stands where no entry does.
+    pub fn blank() -> Entry
+        ensures { result ≡ blank_entry }
+    {
+        Entry {
+            reference: 0,
+            rect: Rect {
+                x: Span { low: 0, high: 0 },
+                y: Span { low: 0, high: 0 },
+            },
+        }
     }
 }
 
 impl Node {
+    ghost use Rattle.std.specs.Prelude.{[], ◌∷◌, ◌++◌, take, drop, set};
+    ghost use Rattle.table.specs.Page.{page, held, Shows, without as without_of, cover_of};
+
     pub fn empty(level: usize) -> Node
         ensures { Shows result (page level []) }
     {
-        let none = blank();
         Node {
             level,
             count: 0,
-            entries: [none; 10],
+            entries: [Entry::blank(); 10],
         }
+    }
+
+    // The entries that the node holds.
+    pub fn held(&self) -> &[Entry]
+        ensures { result.now ≡ held self.now }
+    {
+        &self.entries[..self.count]
     }
 
     // The entry goes last.
@@ -51,15 +64,14 @@ impl Node {
         ensures { Shows result (page self.level (held self ++ e ∷ [])) }
     {
         let mut n = self;
-        let at = n.count;
-        n.entries[at] = e;
-        n.count = at + 1;
+        n.entries[n.count] = e;
+        n.count += 1;
         n
     }
 
     // Another entry at place i.
     pub fn replaced(self, i: usize, e: Entry) -> Node
-        requires { (i < self.count) × (self.count ≤ 10) }
+        requires { i < self.count }
         ensures { Shows result (page self.level (set (held self) i e)) }
     {
         let mut n = self;
@@ -69,24 +81,19 @@ impl Node {
 
     // Place i goes; later entries move up one.
     pub fn without(self, i: usize) -> Node
-        requires { (i < self.count) × (self.count ≤ 10) }
+        requires { i < self.count }
         ensures { Shows result (page self.level (without_of i (held self))) }
     {
         let mut n = self;
-        let last = n.count - 1;
-        let mut k = i;
-        while k < last {
-            let e = n.entries[k + 1];
-            n.entries[k] = e;
-            k += 1;
-        }
+        let last = self.count - 1;
+        n.entries[i..last].copy_from_slice(&self.entries[i + 1..self.count]);
         n.count = last;
         n
     }
 
     // The first k entries.
     pub fn first(self, k: usize) -> Node
-        requires { (k ≤ self.count) × (self.count ≤ 10) }
+        requires { k ≤ self.count }
         ensures { Shows result (page self.level (take k (held self))) }
     {
         let mut n = self;
@@ -96,18 +103,13 @@ impl Node {
 
     // The entries after the first k.
     pub fn rest(self, k: usize) -> Node
-        requires { (k ≤ self.count) × (self.count ≤ 10) }
+        requires { k ≤ self.count }
         ensures { Shows result (page self.level (drop k (held self))) }
     {
-        let count = self.count;
         let mut n = self;
-        let mut at = k;
-        while at < count {
-            let e = n.entries[at];
-            n.entries[at - k] = e;
-            at += 1;
-        }
-        n.count = count - k;
+        let count = self.count - k;
+        n.entries[0..count].copy_from_slice(&self.entries[k..self.count]);
+        n.count = count;
         n
     }
 
@@ -117,34 +119,22 @@ impl Node {
         ensures { Shows result (page self.level (held self ++ held other)) }
     {
         let mut n = self;
-        let from = n.count;
-        let more = other.count;
-        let mut k = 0;
-        while k < more {
-            let e = other.entries[k];
-            n.entries[from + k] = e;
-            k += 1;
-        }
-        n.count = from + more;
+        let count = self.count + other.count;
+        n.entries[self.count..count].copy_from_slice(other.held());
+        n.count = count;
         n
     }
 
     // The smallest rectangle that covers all entries.
     pub fn cover(self) -> Rect
-        requires { self.count ≤ 10 }
         ensures { result ≡ cover_of (held self) }
     {
-        let count = self.count;
-        if count == 0 {
-            return blank().rect;
-        }
-        let first = self.entries[0];
+        let Some((first, others)) = self.held().split_first() else {
+            return Entry::blank().rect;
+        };
         let mut all = first.rect;
-        let mut k = 1;
-        while k < count {
-            let e = self.entries[k];
+        for e in others {
             all = all.grown(e.rect);
-            k += 1;
         }
         all
     }

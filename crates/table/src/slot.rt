@@ -1,13 +1,13 @@
 // The slots of a lent table, and its two header words.
 ghost use Rattle.std.specs.Prelude.{◌≡◌, ◌≤◌, ◌<◌, ◌^◌, pos, negsuc, length, get_or};
-ghost use Rattle.figures.specs.Figures.{FAN, SLOTS, LENGTH};
-ghost use Rattle.table.specs.Words.{root_of, points_of, start_of};
+ghost use Rattle.figures.specs.Figures.{SLOTS};
+ghost use Rattle.table.specs.Words.{root_of, points_of, start_of, part_at};
 ghost use Rattle.table.specs.Page.{Shows, shown, PageFits, blank_entry};
 ghost use Rattle.table.specs.Slots.{is_free, page_at, level_at, entries_at, put_page, freed, lowest_free, entry_for, with_root, with_points};
 
 use crate::node::{Entry, Node};
-use crate::part;
-use figures::Table;
+use crate::part::{self, Part};
+use figures::{Table, Words};
 use words::border;
 
 // Where a slot's words start, and those of the slot before it end.
@@ -18,116 +18,118 @@ fn start(slot: usize) -> usize
     2 + Table::WIDTH * slot
 }
 
-pub fn root_of(table: &[i32]) -> usize
-    requires { length table.now ≡ LENGTH }
+// The words of a slot.
+pub fn part_of(table: &Words, slot: usize) -> &Part
+    requires { slot < SLOTS }
+    ensures { result.now ≡ part_at table.now slot }
+{
+    table[start(slot)..start(slot + 1)].as_array().unwrap()
+}
+
+pub fn root_of(table: &Words) -> usize
     ensures { result ≡ root_of table.now }
 {
     border::natural_at(table, 0)
 }
 
-pub fn points_of(table: &[i32]) -> usize
-    requires { length table.now ≡ LENGTH }
+pub fn points_of(table: &Words) -> usize
     ensures { result ≡ points_of table.now }
 {
     border::natural_at(table, 1)
 }
 
-pub fn put_root(table: &mut [i32], slot: usize)
-    requires { (length table.old ≡ LENGTH) × (slot < SLOTS) }
+pub fn put_root(table: &mut Words, slot: usize)
+    requires { slot < SLOTS }
     ensures { table.new ≡ with_root table.old (pos slot) }
 {
     border::put_natural(table, 0, slot);
 }
 
 // The empty table's root is −1.
-pub fn put_no_root(table: &mut [i32])
-    requires { length table.old ≡ LENGTH }
+pub fn put_no_root(table: &mut Words)
     ensures { table.new ≡ with_root table.old (negsuc 0) }
 {
     border::put_steps(table, 0, part::NONE);
 }
 
-pub fn put_points(table: &mut [i32], points: usize)
-    requires { (length table.old ≡ LENGTH) × (points < 2 ^ 31) }
+pub fn put_points(table: &mut Words, points: usize)
+    requires { points < 2 ^ 31 }
     ensures { table.new ≡ with_points table.old points }
 {
     border::put_natural(table, 1, points);
 }
 
-pub fn is_free(table: &[i32], slot: usize) -> bool
-    requires { (length table.now ≡ LENGTH) × (slot < SLOTS) }
+pub fn is_free(table: &Words, slot: usize) -> bool
+    requires { slot < SLOTS }
     ensures { result ≡ is_free table.now slot }
 {
-    part::is_free_part(&table[start(slot)..start(slot + 1)])
+    part::is_free_part(part_of(table, slot))
 }
 
-pub fn level_at(table: &[i32], slot: usize) -> usize
-    requires { (length table.now ≡ LENGTH) × (slot < SLOTS) }
+pub fn level_at(table: &Words, slot: usize) -> usize
+    requires { slot < SLOTS }
     ensures { result ≡ level_at table.now slot }
 {
     border::natural_at(table, start(slot))
 }
 
-pub fn node_at(table: &[i32], slot: usize) -> Node
-    requires { (length table.now ≡ LENGTH) × (slot < SLOTS) }
+pub fn node_at(table: &Words, slot: usize) -> Node
+    requires { slot < SLOTS }
     ensures { Shows result (page_at table.now slot) }
 {
-    part::node_of(&table[start(slot)..start(slot + 1)])
+    part::node_of(part_of(table, slot))
 }
 
 // How many entries the node in a slot has.
-pub fn count_at(table: &[i32], slot: usize) -> usize
-    requires { (length table.now ≡ LENGTH) × (slot < SLOTS) }
+pub fn count_at(table: &Words, slot: usize) -> usize
+    requires { slot < SLOTS }
     ensures { result ≡ length (entries_at table.now slot) }
 {
-    part::filled_part(&table[start(slot)..start(slot + 1)])
+    part::filled_part(part_of(table, slot))
 }
 
 // One entry of the node in a slot, without the others.
-pub fn entry_at(table: &[i32], slot: usize, i: usize) -> Entry
-    requires { (length table.now ≡ LENGTH) × (slot < SLOTS) × (i < length (entries_at table.now slot)) }
+pub fn entry_at(table: &Words, slot: usize, i: usize) -> Entry
+    requires { (slot < SLOTS) × (i < length (entries_at table.now slot)) }
     ensures { result ≡ get_or (entries_at table.now slot) i blank_entry }
 {
-    part::entry_of(&table[start(slot)..start(slot + 1)], i)
+    part::entry_of(part_of(table, slot), i)
 }
 
-pub fn put_node_at(table: &mut [i32], slot: usize, n: Node)
-    requires { (length table.old ≡ LENGTH) × (slot < SLOTS) × (n.count ≤ FAN) × PageFits (shown n) }
+pub fn put_node_at(table: &mut Words, slot: usize, n: Node)
+    requires { (slot < SLOTS) × PageFits (shown n) }
     ensures { table.new ≡ put_page table.old slot (shown n) }
 {
     part::put_node(&mut table[start(slot)..start(slot + 1)], n);
 }
 
-pub fn free_slot(table: &mut [i32], slot: usize)
-    requires { (length table.old ≡ LENGTH) × (slot < SLOTS) }
+pub fn free_slot(table: &mut Words, slot: usize)
+    requires { slot < SLOTS }
     ensures { table.new ≡ freed table.old slot }
 {
     part::free_part(&mut table[start(slot)..start(slot + 1)]);
 }
 
 // The lowest free slot; SLOTS if none is free.
-pub fn lowest_free(table: &[i32]) -> usize
-    requires { length table.now ≡ LENGTH }
+// Kept: SLOTS for none, and no Option; every caller has a free slot, so an Option would add a branch that no call takes.
+pub fn lowest_free(table: &Words) -> usize
     ensures { result ≡ lowest_free table.now }
 {
-    let mut slot = 0;
-    while slot < Table::SLOTS {
+    for slot in 0..Table::SLOTS {
         if is_free(table, slot) {
             return slot;
         }
-        slot += 1;
     }
-    slot
+    Table::SLOTS
 }
 
 // The entry that a node above has for the node in a slot.
-pub fn entry_for(table: &[i32], slot: usize) -> Entry
-    requires { (length table.now ≡ LENGTH) × (slot < SLOTS) }
+pub fn entry_for(table: &Words, slot: usize) -> Entry
+    requires { slot < SLOTS }
     ensures { result ≡ entry_for table.now slot }
 {
-    let n = node_at(table, slot);
     Entry {
         reference: slot,
-        rect: n.cover(),
+        rect: node_at(table, slot).cover(),
     }
 }

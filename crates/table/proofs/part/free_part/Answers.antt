@@ -1,28 +1,17 @@
--- `part::free_part` meets its contract. The invariant: the first `at` words are those of a free slot. Assumes nothing.
-use Prim.Native.Nat.{◌+◌}
+-- `part::free_part` meets its contract: zeros, and the word −1 before them. Assumes nothing.
 use mathlib.Core.Path.{ap, ◌∙◌}
-use native.Mathlib.Omega.{arith}
-use lib.ListN.{take}
-use Rattle.table.proofs.Parts.{free_first, free_step, free_all}
+use mathlib.Core.List.{◌∷◌}
+use lib.IntN.{ℤ, pos}
+use lib.ListN.{set, replicate}
+use Rattle.words.specs.Word.{word_of}
+use Rattle.table.specs.Words.{Words}
+use Rattle.table.specs.Page.{free_words}
+use Rattle.table.proofs.Parts.{none_word}
 use Rattle.table.proofs.part.free_part.Goals as goal
 
-pub loop-at-init : goal.loop-at-init
-loop-at-init c =
-    let ws = c.args.part.now in
-    let e = c.put_steps.ensures in
-    (omega arith, omega arith, omega arith, ap (take 1) e ∙ free_first ws (omega arith))
-
-pub loop-at-preserved : goal.loop-at-preserved
-loop-at-preserved c =
-    let l = c.loop-at in
-    let e = c.put_natural.ensures in (
-      omega arith,
-      omega arith,
-      omega arith,
-      ap (take (l.at + 1)) e ∙ free_step l.part l.at (omega arith) (omega arith) (omega arith) l.invariant.3,
-    )
-
 pub returns : goal.returns
+unfolding free_words
 returns c =
-    let l = c.loop-at in
-    free_all l.part l.at (omega arith) (omega arith) l.invariant.3
+    c.put_steps.ensures
+    ∙ ap (λ (ws : Words). set ws 0 (word_of 2147483647)) (c.fill.ensures.after (λ y e. e) ∙ ap (λ n. replicate n (pos 0)) c.requires)
+    ∙ ap (λ (z : ℤ). z ∷ replicate 41 (pos 0)) none_word

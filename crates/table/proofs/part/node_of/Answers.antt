@@ -14,10 +14,8 @@ pub loop-i-preserved : goal.loop-i-preserved
 loop-i-preserved c =
     let l = c.loop-i in
     let ws = c.args.part.now in (
-      omega arith,
       simp length-set (omega arith),
-      l.invariant.2,
-      rw c.entry_of-e.ensures (read_step (entry_of ws) l.n.entries l.i (omega arith) l.invariant.3),
+      rw c.entry_of.ensures (read_step (entry_of ws) l.entries l.i (omega arith) l.invariant.1),
     )
 
 pub returns : goal.returns
@@ -28,7 +26,7 @@ returns c =
     let k = c.filled_part-count.ensures in
     let e : l.i ≡ c.filled_part-count.result = omega arith in
     record {
-      level = l.invariant.2 ∙ c.empty-n.ensures.level ∙ c.natural_at.ensures;
+      level = c.natural_at.ensures;
       count = k ∙ sym (length-map (up_from 0 (filled ws)) (entry_of ws) ∙ up_length 0 (filled ws));
-      entries = ap (λ (n : ℕ). take n l.n.entries) (sym e) ∙ l.invariant.3 ∙ ap (λ (n : ℕ). map (entry_of ws) (up_from 0 n)) (e ∙ k);
+      entries = ap (λ (n : ℕ). take n l.entries) (sym e) ∙ l.invariant.1 ∙ ap (λ (n : ℕ). map (entry_of ws) (up_from 0 n)) (e ∙ k);
     }

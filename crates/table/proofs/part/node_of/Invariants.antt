@@ -1,5 +1,4 @@
 -- `part::node_of` meets its contract. The invariant: the first `i` entries have been read. Assumes nothing.
-use Prim.Native.Nat.{◌-◌, ◌≤◌}
 use mathlib.Core.Path.{◌≡◌}
 use mathlib.Core.List.{map}
 use lib.ListN.{length, take}
@@ -8,8 +7,4 @@ use Rattle.table.specs.Page.{entry_of}
 use Rattle.table.proofs.part.node_of.Given as goal
 
 abbrev pub invariant-loop-i : goal.invariant-loop-i
-invariant-loop-i l =
-    (l.i ≤ l.count) × (length l.n.entries ≡ 10) × (l.n.level ≡ l.initial.n.level) × (take l.i l.n.entries ≡ map (entry_of l.part) (up_from 0 l.i))
-
-abbrev pub decreases-loop-i : goal.decreases-loop-i
-decreases-loop-i l = l.count - l.i
+invariant-loop-i l = (length l.entries ≡ 10) × (take l.i l.entries ≡ map (entry_of l.part) (up_from 0 l.i))

@@ -8,4 +8,4 @@ use Rattle.table.proofs.slot.entry_for.Goals as goal
 pub returns : goal.returns
 unfolding entry_for
 returns c =
-    entry_ext refl (c.cover.ensures ∙ ap cover_of c.node_at-n.ensures.entries)
+    entry_ext refl (c.cover.ensures ∙ ap cover_of c.node_at.ensures.entries)

@@ -13,4 +13,4 @@ returns c =
     let w = c.put_node in
     let p = shown c.args.n in
     back_part c.args.table.now c.args.slot f.result t.result f.ensures t.ensures w.new.part (page_words p)
-    w.ensures (page_length p c.requires.3.few)
+    w.ensures (page_length p c.requires.1.few)

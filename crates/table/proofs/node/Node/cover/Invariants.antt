@@ -1,12 +1,8 @@
--- `table::node::Node::cover` meets its contract. The invariant: `all` covers the first k entries. Assumes nothing.
-use Prim.Native.Nat.{◌-◌, ◌≤◌}
+-- `table::node::Node::cover` meets its contract. The invariant: `all` covers the first entry and those of the others that have passed. Assumes nothing.
 use mathlib.Core.Path.{◌≡◌}
 use lib.ListN.{take}
-use Rattle.table.specs.Page.{cover_of}
+use Rattle.table.specs.Page.{cover_from}
 use Rattle.table.proofs.node.Node.cover.Given as goal
 
-abbrev pub invariant-loop-k : goal.invariant-loop-k
-invariant-loop-k l = (1 ≤ l.k) × (l.k ≤ l.count) × (l.all ≡ cover_of (take l.k l.self.entries))
-
-abbrev pub decreases-loop-k : goal.decreases-loop-k
-decreases-loop-k l = l.count - l.k
+abbrev pub invariant-loop-e : goal.invariant-loop-e
+invariant-loop-e l = l.all ≡ cover_from l.initial.all (take l.e-index l.others)

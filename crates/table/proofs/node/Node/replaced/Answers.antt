@@ -11,4 +11,4 @@ pub returns : goal.returns
 returns c =
     let a = c.args.self in
     let h : c.args.i < a.count = omega arith in
-    shows _ _ (simp length-set (full a c.well_formed.0)) (omega arith) refl (rw take-set-lt)
+    shows _ _ (simp length-set (full a c.well_formed.0)) refl (rw take-set-lt)

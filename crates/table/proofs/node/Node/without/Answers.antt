@@ -1,30 +1,18 @@
--- `table::node::Node::without` meets its contract. The invariant: the entries behind i, up to k, have been copied one place up; what stands from k on is as it was. Assumes nothing.
-use Prim.Native.Nat.{◌+◌, ◌-◌}
-use mathlib.Core.Path.{◌≡◌}
+-- `table::node::Node::without` meets its contract: the entries before i stay, and those behind it are copied one place up. Assumes nothing.
+use mathlib.Core.Path.{refl, ap}
 use native.Mathlib.Omega.{arith}
-use lib.ListN.{drop, length-drop}
+use lib.ListN.{length, take, length-take, length-drop}
 use lib.Seq.{take-take}
-use Rattle.table.specs.Page.{blank_entry}
-use Rattle.table.proofs.Nodes.{full, move_more, copy_shows, drop_take}
+use Rattle.table.specs.declared.node.Entry.{Entry}
+use Rattle.table.proofs.Nodes.{full, runs_show, drop_take}
 use Rattle.table.proofs.node.Node.without.Goals as goal
-
-pub loop-k-preserved : goal.loop-k-preserved
-loop-k-preserved c =
-    let l = c.loop-k in
-    let i = c.args.i in
-    let f = full c.args.self c.well_formed.0 in (
-      omega arith,
-      omega arith,
-      l.invariant.2,
-      move_more c.args.self.entries i (i + 1) (l.k - i) blank_entry l.n.entries l.invariant.3 (omega arith) (omega arith) l.k (l.k + 1) (l.k + 1 - i) (omega arith) (omega arith) (omega arith),
-    )
 
 pub returns : goal.returns
 returns c =
-    let l = c.loop-k in
     let i = c.args.i in
     let a = c.args.self in
     let f = full a c.well_formed.0 in
-    let g = length-drop (i + 1) a.entries in
-    let e : l.k - i ≡ a.count - (i + 1) = omega arith in
-    copy_shows l.n a.entries i (drop (i + 1) a.entries) (l.k - i) _ _ l.invariant.3 f (omega arith) (omega arith) (omega arith) l.invariant.2 (rw (e, drop_take, take-take i a.count a.entries (omega arith)))
+    let made = c.copy_from_slice.ensures.after in
+    runs_show _ _ (take i a.entries) c.copy_from_slice.new.self _ refl
+    (omega (arith, ap length made, length-take {A = Entry}, length-drop {A = Entry}))
+    refl (rw (made, drop_take, take-take i a.count a.entries (omega arith)))
