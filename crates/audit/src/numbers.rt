@@ -29,9 +29,7 @@ fn span_is_spot(s: Span) -> bool
 pub fn is_point(e: Entry) -> bool
     ensures { result ≡ is_point e }
 {
-    (1..=Table::HIGHEST).contains(&e.reference)
-        && span_is_spot(e.rect.x)
-        && span_is_spot(e.rect.y)
+    (1..=Table::HIGHEST).contains(&e.reference) && span_is_spot(e.rect.x) && span_is_spot(e.rect.y)
 }
 
 pub fn all_points(n: Node) -> bool
