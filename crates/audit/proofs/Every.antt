@@ -2,17 +2,16 @@
 -- Said of the numbers below n, and of the elements of a list. Assumes nothing.
 use Prim.Native.Nat.{ℕ, suc, ◌+◌, ◌≤◌, ◌<◌}
 use native.Mathlib.Omega.{arith}
-use mathlib.Core.Path.{◌≡◌, sym, ◌∙◌}
-use mathlib.Core.Bool.{Bool, true, false, false≢true}
+use mathlib.Core.Path.{◌≡◌, refl, ap, sym, ◌∙◌}
+use mathlib.Core.Bool.{Bool, true, false, not, ◌&&◌, false≢true}
 use mathlib.Core.List.{List, [], ◌∷◌}
+use Rattle.std.specs.Prelude.{Option, None, Some, MatchOption, IfSome}
+use Rattle.std.specs.List.{list_all}
 use lib.ListN.{length, get_or}
-use native.Mathlib.Decide.{dec_lt}
-use lib.Dec.{eqb}
-use borrow.Author.Tests.{eq-eqb, ne_eqb}
 use borrow.Author.Count.{below_none, below_more}
 use Rattle.order.specs.Lists.{every, All}
 use Rattle.order.specs.Order.{up_from}
-use Rattle.audit.specs.Asked.{Lowest}
+use Rattle.audit.specs.Asked.{LowestAt, LowestNo, Lowest}
 use Rattle.order.proofs.Lists.{all_at}
 use Rattle.rules.proofs.Tests.{by_test, every_all, all_every}
 use Rattle.rules.proofs.Broken.{Everywhere, FirstAt}
@@ -47,37 +46,52 @@ one_fails P n i h f = never_true (λ e. false≢true (sym f ∙ every_below P n 
 pub all_pass : (P : ℕ → Bool) (n i : ℕ) → Tested P n i → n ≤ i → every P (up_from 0 n) ≡ true
 all_pass P n i t h = below_every P n (λ k l. t.each k (omega arith))
 
--- the loop stops at the lowest that fails, or passes all
-pub found_lowest : {P : ℕ → Bool} {n i : ℕ} → Tested P n i → P i ≡ false → Lowest P n i
-found_lowest t f = record { within = t.within; below = t.each; broken = λ h. f }
+-- what answers as a rule does answers no where the rule is broken
+module _ {answers : ℕ → Bool → Type 0} (P : ℕ → Bool) {n : ℕ} (same : (k : ℕ) (b : Bool) → k < n → answers k b → b ≡ P k) where
+  lowest_cases : (r : Option ℕ) → MatchOption r ((k : ℕ) → k < n → answers k true) (LowestAt answers n) → Lowest P n r
+  lowest_cases None l = record { cases = λ k h. sym (same k true h (l k h)) }
+  lowest_cases (Some r) l =
+      record {
+        cases = record {
+          within = l.within;
+          below = λ k h. let u : k < n = omega (arith, l.within) in sym (same k true u (l.below k h));
+          broken = sym (same r false l.within l.broken);
+        };
+      }
 
-pub none_lowest : {P : ℕ → Bool} {n i : ℕ} → Tested P n i → n ≤ i → Lowest P n i
-none_lowest t h = record { within = t.within; below = t.each; broken = λ l. absurd (omega arith) }
+  pub lowest_of : {r : Option ℕ} → LowestNo answers n r → Lowest P n r
+  lowest_of {r = r} l = lowest_cases r l.cases
 
--- what it says of a rule, broken at a slot or at none
-pub lowest_first : {P : ℕ → Bool} {n r : ℕ} → Lowest P n r → r < n → FirstAt n P r
-lowest_first l h = record { inside = h; below = l.below; broken = l.broken h }
+-- where one is given, it is one of them
+inside_cases : (answers : ℕ → Bool → Type 0) (n : ℕ) (r : Option ℕ) → MatchOption r ((k : ℕ) → k < n → answers k true) (LowestAt answers n) → IfSome r (λ s. s < n)
+inside_cases answers n None l = tt
+inside_cases answers n (Some s) l = l.within
 
-pub lowest_none : {P : ℕ → Bool} {n r : ℕ} → Lowest P n r → n ≤ r → Everywhere n P
-lowest_none l h k u = l.below k (omega arith)
+pub lowest_inside : {answers : ℕ → Bool → Type 0} {n : ℕ} {r : Option ℕ} → LowestNo answers n r → IfSome r (λ s. s < n)
+lowest_inside {answers} {n} {r} l = inside_cases answers n r l.cases
 
--- and none that is lowest is a test passed by all
-pub lowest_all : {P : ℕ → Bool} {n r : ℕ} → Lowest P n r → n ≤ r → every P (up_from 0 n) ≡ true
-lowest_all {P} {n} l h = below_every P n (λ k u. l.below k (omega arith))
+-- what it says of a rule that is broken at a slot
+pub lowest_first : {P : ℕ → Bool} {n r : ℕ} → LowestAt (λ k b. P k ≡ b) n r → FirstAt n P r
+lowest_first l = record { inside = l.within; below = l.below; broken = l.broken }
 
-pub lowest_fails : {P : ℕ → Bool} {n r : ℕ} → Lowest P n r → r < n → every P (up_from 0 n) ≡ false
-lowest_fails {P} {n} {r} l h = one_fails P n r h (l.broken h)
+pub lowest_fails : {P : ℕ → Bool} {n r : ℕ} → LowestAt (λ k b. P k ≡ b) n r → every P (up_from 0 n) ≡ false
+lowest_fails {P} {n} {r} l = one_fails P n r l.within l.broken
 
-pub lowest_every : {P : ℕ → Bool} {n r : ℕ} → Lowest P n r → eqb r n ≡ every P (up_from 0 n)
-lowest_every {P} {n} {r} l = go (dec_lt r n)
-  where
-    go : Dec (r < n) → eqb r n ≡ every P (up_from 0 n)
-    go (yes h) = ne_eqb r n (λ e. omega arith) ∙ sym (lowest_fails l h)
-    go (no h) =
-        let g : n ≤ r = omega arith in
-        eq-eqb r n (omega (arith, l.within)) ∙ sym (lowest_all l g)
+-- a test that is made by `!=`
+pub unlike : {a b r : Bool} → a ≡ b → r ≡ not a → r ≡ true → b ≡ false
+unlike {a = true} e h t = absurd (false≢true (sym h ∙ t))
+unlike {a = false} e h t = sym e
+
+pub alike : {a b r : Bool} → a ≡ b → r ≡ not a → r ≡ false → b ≡ true
+alike {a = true} e h t = sym e
+alike {a = false} e h t = absurd (false≢true (sym t ∙ h))
 
 -- ---- the elements of a list
+
+-- std's word for the same test
+pub std_all : {A : Type 0} (P : A → Bool) (xs : List A) → list_all P xs ≡ every P xs
+std_all P [] = refl
+std_all P (x ∷ xs) = ap (λ b. P x && b) (std_all P xs)
 
 all_below : {A : Type 0} (Q : A → Type 0) (xs : List A) (d : A) → ((i : ℕ) → i < length xs → Q (get_or xs i d)) → All Q xs
 all_below Q [] d h = tt

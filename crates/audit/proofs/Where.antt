@@ -15,9 +15,9 @@ use Rattle.order.specs.Lists.{every, join, Mem, All}
 use Rattle.order.specs.Order.{up_from}
 use Rattle.order.proofs.Lists.{by_bool, all_append, all_then, mem_all, and_left, and_right}
 use Rattle.figures.specs.Figures.{SLOTS, LENGTH}
-use Rattle.table.specs.declared.given.Given.{Given}
-use Rattle.table.specs.declared.given.Given.TheVariants.{Done, WrongLength, NotWellFormed, NoSuchNumber, OffGrid, NoSuchK, AlreadyEnrolled, Full, NotEnrolled, FewCandidates, ShortList, Misshapen, SheetTooLong}
-use Rattle.table.specs.Given.{number_given}
+use Rattle.std.specs.Prelude.{Ok, Err}
+use Rattle.table.specs.declared.given.Refusal.TheVariants.{WrongLength, NotWellFormed, NoSuchNumber, OffGrid, NoSuchK, AlreadyEnrolled, Full, NotEnrolled, FewCandidates, ShortList, Misshapen, SheetTooLong}
+use Rattle.table.specs.Given.{Given, Done, number_given}
 use Rattle.table.specs.Words.{Words}
 use Rattle.table.specs.Slots.{slots}
 use Rattle.rules.specs.Rules.{rule1, rule2, rule3, rule4, rule5, rule6, rule7_header, rule7, well_formed}
@@ -205,12 +205,12 @@ module _ (ws : Words) where
       refl
 
   -- 2 is given for what is not well formed, with its fault
-  two : (a b : Bool) (r : ℕ) (z : ℤ) {g : Given} → g ≡ cond (not a) WrongLength (cond (not b) (NotWellFormed r z) Done) → number_given g ≡ 2 → (b ≡ false) × (g ≡ NotWellFormed r z)
+  two : (a b : Bool) (r : ℕ) (z : ℤ) {g : Given} → g ≡ cond (not a) (Err WrongLength) (cond (not b) (Err (NotWellFormed r z)) Done) → number_given g ≡ 2 → (b ≡ false) × (g ≡ Err (NotWellFormed r z))
   two true false r z e d = (refl, e)
   two true true r z e d = let k : ◌≡◌ {A = ℕ} 0 2 = ap number_given (sym e) ∙ d in absurd (omega arith)
   two false b r z e d = let k : ◌≡◌ {A = ℕ} 1 2 = ap number_given (sym e) ∙ d in absurd (omega arith)
 
-  given_two : number_given (check_gives ws) ≡ 2 → (well_formed ws ≡ false) × (check_gives ws ≡ NotWellFormed (fault_of ws).rule (fault_of ws).slot)
+  given_two : number_given (check_gives ws) ≡ 2 → (well_formed ws ≡ false) × (check_gives ws ≡ Err (NotWellFormed (fault_of ws).rule (fault_of ws).slot))
   unfolding check_gives
   given_two d = two (eqb (length ws) LENGTH) (well_formed ws) (fault_of ws).rule (fault_of ws).slot refl d
 
@@ -229,19 +229,19 @@ module _ (ws : Words) where
 -- ---- the theorem
 
 none_given : (g : Given) → (number_given g ≡ 2 → ⊥) → fault_given g ≡ record { rule = 0; slot = pos 0 }
-none_given Done n = refl
-none_given WrongLength n = refl
-none_given (NotWellFormed r z) n = absurd (n refl)
-none_given NoSuchNumber n = refl
-none_given OffGrid n = refl
-none_given NoSuchK n = refl
-none_given AlreadyEnrolled n = refl
-none_given Full n = refl
-none_given NotEnrolled n = refl
-none_given FewCandidates n = refl
-none_given ShortList n = refl
-none_given Misshapen n = refl
-none_given SheetTooLong n = refl
+none_given (Ok u) n = refl
+none_given (Err (NotWellFormed r z)) n = absurd (n refl)
+none_given (Err WrongLength) n = refl
+none_given (Err NoSuchNumber) n = refl
+none_given (Err OffGrid) n = refl
+none_given (Err NoSuchK) n = refl
+none_given (Err AlreadyEnrolled) n = refl
+none_given (Err Full) n = refl
+none_given (Err NotEnrolled) n = refl
+none_given (Err FewCandidates) n = refl
+none_given (Err ShortList) n = refl
+none_given (Err Misshapen) n = refl
+none_given (Err SheetTooLong) n = refl
 
 pub where_bad : Where
 where_bad = record {

@@ -1,8 +1,8 @@
 -- 01, "Numbers given back", lines 1 and 2, and 02 §4: what the table check gives.
 use Rattle.std.specs.Prelude.{Bool, not, List, [], ◌∷◌, eqb, length}
-use Rattle.table.specs.declared.given.Given.{Given}
-use Rattle.table.specs.declared.given.Given.TheVariants.{WrongLength, NotWellFormed}
-use Rattle.table.specs.Given.{Line, line, first_of}
+use Rattle.table.specs.declared.given.Refusal.{Refusal}
+use Rattle.table.specs.declared.given.Refusal.TheVariants.{WrongLength, NotWellFormed}
+use Rattle.table.specs.Given.{Given, Line, line, first_of}
 use Rattle.figures.specs.Figures.{LENGTH}
 use Rattle.table.specs.Words.{Words}
 use Rattle.rules.specs.Rules.{well_formed}
@@ -17,7 +17,7 @@ abbrev pub malformed : Words → Bool
 malformed ws = not (well_formed ws)
 
 -- and what is then given: the lowest-numbered rule that is broken, and the lowest slot where it is
-abbrev pub bad_at : Words → Given
+abbrev pub bad_at : Words → Refusal
 bad_at ws = NotWellFormed (fault_of ws).rule (fault_of ws).slot
 
 -- table check 1, 2

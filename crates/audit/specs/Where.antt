@@ -2,8 +2,7 @@
 use Rattle.std.specs.Prelude.{◌≤◌, ◌<◌, ◌≡◌, true, false, ◌⊎◌, pos}
 use Rattle.std.specs.Int.Signed.{lt_z}
 use Rattle.order.specs.Lists.{every, Mem, All}
-use Rattle.table.specs.declared.given.Given.{Given}
-use Rattle.table.specs.Given.{number_given, rule_given, slot_given}
+use Rattle.table.specs.Given.{Given, number_given, rule_given, slot_given}
 use Rattle.table.specs.Words.{Words}
 use Rattle.rules.specs.Rules.{well_formed}
 use Rattle.rules.specs.Broken.{Test, Fault, tests}

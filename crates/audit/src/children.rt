@@ -1,17 +1,15 @@
 // Rules 5 and 6: the children of each node, and the box that its entry gives each.
-ghost use Rattle.std.specs.Prelude.{◌≡◌, true, ◌<◌, length};
-ghost use Rattle.figures.specs.Figures.{SLOTS, LENGTH};
-ghost use Rattle.rules.specs.Rules.{is_above, is_child, same_span, same_rect, rule5, rule6};
+ghost use Rattle.std.specs.Prelude.{◌≡◌, true, ◌<◌};
+ghost use Rattle.figures.specs.Figures.{SLOTS};
+ghost use Rattle.rules.specs.Rules.{is_above, is_child, rule5, rule6};
 
-use axis::span::Span;
-use figures::Table;
-use grid::rect::Rect;
+use figures::{Table, Words};
 use table::node::Entry;
 use table::slot;
 
 // Whether a slot is used and above the leaves.
-pub fn is_above(table: &[i32], slot: usize) -> bool
-    requires { (length table.now ≡ LENGTH) × (slot < SLOTS) }
+pub fn is_above(table: &Words, slot: usize) -> bool
+    requires { slot < SLOTS }
     ensures { result ≡ is_above table.now slot }
 {
     if slot::is_free(table, slot) {
@@ -21,8 +19,8 @@ pub fn is_above(table: &[i32], slot: usize) -> bool
 }
 
 // A child slot is 0 to 255, used, with level exactly one less.
-pub fn is_child(table: &[i32], slot: usize, e: Entry) -> bool
-    requires { (length table.now ≡ LENGTH) × (slot < SLOTS) }
+pub fn is_child(table: &Words, slot: usize, e: Entry) -> bool
+    requires { slot < SLOTS }
     ensures { result ≡ is_child table.now slot e }
 {
     let child = e.reference;
@@ -39,62 +37,31 @@ pub fn is_child(table: &[i32], slot: usize, e: Entry) -> bool
     slot::level_at(table, child) == level - 1
 }
 
-pub fn rule5_at(table: &[i32], slot: usize) -> bool
-    requires { (length table.now ≡ LENGTH) × (slot < SLOTS) }
+pub fn rule5_at(table: &Words, slot: usize) -> bool
+    requires { slot < SLOTS }
     ensures { result ≡ rule5 table.now slot }
 {
     if !is_above(table, slot) {
         return true;
     }
     let n = slot::node_at(table, slot);
-    let count = n.count;
-    let mut i = 0;
-    while i < count {
-        let e = n.entries[i];
-        if !is_child(table, slot, e) {
-            return false;
-        }
-        i += 1;
-    }
-    true
-}
-
-fn same_span(s: Span, t: Span) -> bool
-    ensures { result ≡ same_span s t }
-{
-    if s.low != t.low {
-        return false;
-    }
-    s.high == t.high
-}
-
-pub fn same_rect(r: Rect, s: Rect) -> bool
-    ensures { result ≡ same_rect r s }
-{
-    if !same_span(r.x, s.x) {
-        return false;
-    }
-    same_span(r.y, s.y)
+    n.held().iter().all(|e| is_child(table, slot, *e))
 }
 
 // Rule 6: an entry's box is the smallest that covers all boxes in the child. The children are slots of the table by rule 5.
-pub fn rule6_at(table: &[i32], slot: usize) -> bool
-    requires { (length table.now ≡ LENGTH) × (slot < SLOTS) × (rule5 table.now slot ≡ true) }
+pub fn rule6_at(table: &Words, slot: usize) -> bool
+    requires { (slot < SLOTS) × (rule5 table.now slot ≡ true) }
     ensures { result ≡ rule6 table.now slot }
 {
     if !is_above(table, slot) {
         return true;
     }
     let n = slot::node_at(table, slot);
-    let count = n.count;
-    let mut i = 0;
-    while i < count {
-        let e = n.entries[i];
+    for e in n.held() {
         let below = slot::entry_for(table, e.reference);
-        if !same_rect(e.rect, below.rect) {
+        if e.rect != below.rect {
             return false;
         }
-        i += 1;
     }
     true
 }

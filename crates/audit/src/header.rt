@@ -1,17 +1,13 @@
 // Rule 2: the two header words.
-ghost use Rattle.std.specs.Prelude.{◌≡◌, length};
-ghost use Rattle.figures.specs.Figures.{LENGTH};
+ghost use Rattle.std.specs.Prelude.{◌≡◌};
 ghost use Rattle.rules.specs.Rules.{is_empty, rule2};
 
-use crate::asked;
-use crate::asked::Rule;
-use figures::Table;
+use figures::{Table, Words};
 use table::{part, slot};
 use words::border;
 
 // The empty table: root −1, points 0, all slots free.
-pub fn is_empty(table: &[i32]) -> bool
-    requires { length table.now ≡ LENGTH }
+pub fn is_empty(table: &Words) -> bool
     ensures { result ≡ is_empty table.now }
 {
     if border::steps_at(table, 0) != part::NONE {
@@ -20,13 +16,11 @@ pub fn is_empty(table: &[i32]) -> bool
     if slot::points_of(table) != 0 {
         return false;
     }
-    let uncounted = [0; Table::SLOTS];
-    asked::first_broken(table, Rule::Free, &uncounted) == Table::SLOTS
+    (0..Table::SLOTS).all(|slot| slot::is_free(table, slot))
 }
 
 // Rule 2: empty, or the root is a used slot and points are 1 to 500.
-pub fn rule2_holds(table: &[i32]) -> bool
-    requires { length table.now ≡ LENGTH }
+pub fn rule2_holds(table: &Words) -> bool
     ensures { result ≡ rule2 table.now }
 {
     if is_empty(table) {

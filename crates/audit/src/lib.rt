@@ -3,8 +3,9 @@
 // It stands on rules (what each rule says) and table (parts, nodes, slots).
 #![tactic(auto)]
 
-ghost use Rattle.std.specs.Prelude.{◌≡◌, ◌<◌, pos, negsuc};
+ghost use Rattle.std.specs.Prelude.{◌≡◌, ◌<◌, Err, IfSome, MatchOption, cond, pos, negsuc};
 ghost use Rattle.figures.specs.Figures.{SLOTS};
+ghost use Rattle.table.specs.Given.{Done};
 ghost use Rattle.audit.specs.Check.{check_gives};
 
 pub mod asked;
@@ -14,66 +15,55 @@ pub mod numbers;
 pub mod references;
 pub mod shape;
 
-use asked::Rule;
-use figures::Table;
-use table::given::Given;
+use asked::first_broken;
+use figures::Words;
+use table::given::{Given, Refusal};
 
-// What is given where a rule is broken at a slot.
-fn bad_at(rule: u8, slot: usize) -> Given
-    requires { slot < SLOTS }
-    ensures { result ≡ Given.NotWellFormed rule (pos slot) }
+// What is given of a rule of the slots: it may be broken at one of them.
+fn at_slots(rule: u8, broken: Option<usize>) -> Given
+    requires { IfSome broken (λ slot. slot < SLOTS) }
+    ensures { MatchOption broken (result ≡ Done) (λ slot. result ≡ Err (Refusal.NotWellFormed rule (pos slot))) }
 {
-    Given::NotWellFormed {
-        rule,
-        slot: slot as i32,
+    match broken {
+        Some(slot) => Err(Refusal::NotWellFormed {
+            rule,
+            slot: slot as i32,
+        }),
+        None => Ok(()),
     }
 }
 
-// What is given where a rule of the two header words is broken.
-fn bad_header(rule: u8) -> Given
-    ensures { result ≡ Given.NotWellFormed rule (negsuc 0) }
+// What is given of a rule of the two header words.
+fn at_header(rule: u8, holds: bool) -> Given
+    ensures { result ≡ cond holds Done (Err (Refusal.NotWellFormed rule (negsuc 0))) }
 {
-    Given::NotWellFormed { rule, slot: -1 }
+    if holds {
+        Ok(())
+    } else {
+        Err(Refusal::NotWellFormed { rule, slot: -1 })
+    }
 }
 
-// The table check: 1, 2 or 0, and the table stays as it is. Each rule is asked in one pass, which stops at the lowest slot where it is broken.
+// The rules in their order. Each is asked in one pass, which stops at the lowest slot where it is broken.
+fn rules_kept(table: &Words) -> Given
+    ensures { result ≡ check_gives table.now }
+{
+    at_slots(1, first_broken(|slot| shape::rule1_at(table, slot)))?;
+    at_header(2, header::rule2_holds(table))?;
+    at_slots(3, first_broken(|slot| shape::rule3_at(table, slot)))?;
+    at_slots(4, numbers::rule4_first(table))?;
+    at_slots(5, first_broken(|slot| children::rule5_at(table, slot)))?;
+    at_slots(6, first_broken(|slot| children::rule6_at(table, slot)))?;
+    at_header(7, references::points_agree(table))?;
+    at_slots(7, references::rule7_first(table))
+}
+
+// The table check: 1, 2 or 0, and the table stays as it is.
 pub fn check(table: &[i32]) -> Given
     ensures { result ≡ check_gives table.now }
 {
-    if table.len() != Table::LENGTH {
-        return Given::WrongLength;
-    }
-    // No reference is counted before rule 7.
-    let uncounted = [0; Table::SLOTS];
-    let first = asked::first_broken(table, Rule::One, &uncounted);
-    if first < Table::SLOTS {
-        return bad_at(1, first);
-    }
-    if !header::rule2_holds(table) {
-        return bad_header(2);
-    }
-    let third = asked::first_broken(table, Rule::Three, &uncounted);
-    if third < Table::SLOTS {
-        return bad_at(3, third);
-    }
-    let fourth = numbers::rule4_first(table);
-    if fourth < Table::SLOTS {
-        return bad_at(4, fourth);
-    }
-    let fifth = asked::first_broken(table, Rule::Five, &uncounted);
-    if fifth < Table::SLOTS {
-        return bad_at(5, fifth);
-    }
-    let sixth = asked::first_broken(table, Rule::Six, &uncounted);
-    if sixth < Table::SLOTS {
-        return bad_at(6, sixth);
-    }
-    if !references::points_agree(table) {
-        return bad_header(7);
-    }
-    let seventh = references::rule7_first(table);
-    if seventh < Table::SLOTS {
-        return bad_at(7, seventh);
-    }
-    Given::Done
+    let Some(words) = table.as_array() else {
+        return Err(Refusal::WrongLength);
+    };
+    rules_kept(words)
 }

@@ -1,8 +1,8 @@
 // Rule 4: the points in the leaves, no number twice.
-ghost use Rattle.std.specs.Prelude.{◌≡◌, true, List, ℕ, ◌+◌, ◌≤◌, ◌<◌, length};
+ghost use Rattle.std.specs.Prelude.{◌≡◌, true, List, ℕ, ◌+◌, ◌<◌};
 ghost use Rattle.order.specs.Lists.{every, join};
 ghost use Rattle.order.specs.Order.{up_from};
-ghost use Rattle.figures.specs.Figures.{FAN, SLOTS, LENGTH};
+ghost use Rattle.figures.specs.Figures.{SLOTS};
 ghost use Rattle.table.specs.Page.{held};
 ghost use Rattle.table.specs.Stations.{span_is_spot, is_point};
 ghost use Rattle.rules.specs.Rules.{numbers_at, rule4};
@@ -10,7 +10,7 @@ ghost use Rattle.audit.specs.Seen.{refs_of, Marks, Entered};
 ghost use Rattle.audit.specs.Asked.{Lowest};
 
 use axis::span::Span;
-use figures::Table;
+use figures::{Table, Words};
 use table::node::{Entry, Node};
 use table::slot;
 use words::border;
@@ -45,43 +45,29 @@ pub fn is_point(e: Entry) -> bool
 }
 
 pub fn all_points(n: Node) -> bool
-    requires { n.count ≤ FAN }
     ensures { result ≡ every is_point (held n) }
 {
-    let count = n.count;
-    let mut i = 0;
-    while i < count {
-        let e = n.entries[i];
-        if !is_point(e) {
-            return false;
-        }
-        i += 1;
-    }
-    true
+    n.held().iter().all(|e| is_point(*e))
 }
 
 // Marks the numbers of a leaf in the map of all numbers; false at the first that is marked already.
 fn mark(seen: &mut [bool; NUMBERS], n: Node) -> bool
-    requires { (n.count ≤ FAN) × (every is_point (held n) ≡ true) }
+    requires { every is_point (held n) ≡ true }
     ensures { (before : List ℕ) → Marks seen.old before → Entered before (refs_of (held n)) result seen.new }
 {
-    let count = n.count;
-    let mut i = 0;
-    while i < count {
-        let e = n.entries[i];
+    for e in n.held() {
         let number = e.reference;
         if seen[number] {
             return false;
         }
         seen[number] = true;
-        i += 1;
     }
     true
 }
 
 // Rule 4 at one slot, where the map marks the numbers in the slots before it.
-fn rule4_at(table: &[i32], slot: usize, seen: &mut [bool; NUMBERS]) -> bool
-    requires { (length table.now ≡ LENGTH) × (slot < SLOTS) × Marks seen.old (join (numbers_at table.now) (up_from 0 slot)) }
+fn rule4_at(table: &Words, slot: usize, seen: &mut [bool; NUMBERS]) -> bool
+    requires { (slot < SLOTS) × Marks seen.old (join (numbers_at table.now) (up_from 0 slot)) }
     ensures answer { result ≡ rule4 table.now slot }
     ensures marks { result ≡ true → Marks seen.new (join (numbers_at table.now) (up_from 0 (slot + 1))) }
 {
@@ -95,18 +81,15 @@ fn rule4_at(table: &[i32], slot: usize, seen: &mut [bool; NUMBERS]) -> bool
     mark(seen, n)
 }
 
-// The lowest slot where rule 4 is broken, in one pass; Table::SLOTS if it holds at every one. A number that is met again is broken at the later place.
-pub fn rule4_first(table: &[i32]) -> usize
-    requires { length table.now ≡ LENGTH }
+// The lowest slot where rule 4 is broken, in one pass; none if it holds at every one. A number that is met again is broken at the later place.
+pub fn rule4_first(table: &Words) -> Option<usize>
     ensures { Lowest (rule4 table.now) SLOTS result }
 {
     let mut seen = [false; NUMBERS];
-    let mut slot = 0;
-    while slot < Table::SLOTS {
+    for slot in 0..Table::SLOTS {
         if !rule4_at(table, slot, &mut seen) {
-            return slot;
+            return Some(slot);
         }
-        slot += 1;
     }
-    slot
+    None
 }

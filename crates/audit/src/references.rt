@@ -2,7 +2,7 @@
 ghost use Rattle.std.specs.Prelude.{◌≡◌, true, ℕ, ◌+◌, ◌*◌, ◌≤◌, ◌<◌, List, ◌++◌, length, get_or};
 ghost use Rattle.order.specs.Lists.{every, join, All};
 ghost use Rattle.order.specs.Order.{up_from};
-ghost use Rattle.figures.specs.Figures.{FAN, SLOTS, LENGTH};
+ghost use Rattle.figures.specs.Figures.{FAN, SLOTS};
 ghost use Rattle.table.specs.Page.{held};
 ghost use Rattle.table.specs.Slots.{slots};
 ghost use Rattle.table.specs.Stations.{stations_at, stations};
@@ -10,31 +10,25 @@ ghost use Rattle.rules.specs.Rules.{refs_at, rule5, rule7, rule7_header};
 ghost use Rattle.audit.specs.Seen.{refs_of, Tally};
 ghost use Rattle.audit.specs.Asked.{Lowest};
 
-use crate::asked::Rule;
 use crate::{asked, children};
-use figures::Table;
+use figures::{Table, Words};
 use table::node::Node;
 use table::slot;
 
 // Adds the references of a node to the number of each slot.
 fn count_references(times: &mut [usize; Table::SLOTS], n: Node)
-    requires room { (length times.old ≡ SLOTS) × ((s : ℕ) → s < SLOTS → get_or times.old s 0 ≤ FAN * SLOTS) }
-    requires inside { (n.count ≤ FAN) × All (λ e. e.reference < SLOTS) (held n) }
+    requires room { (s : ℕ) → s < SLOTS → get_or times.old s 0 ≤ FAN * SLOTS }
+    requires inside { All (λ e. e.reference < SLOTS) (held n) }
     ensures { (before : List ℕ) → Tally times.old before → Tally times.new (before ++ refs_of (held n)) }
 {
-    let count = n.count;
-    let mut i = 0;
-    while i < count {
-        let e = n.entries[i];
-        let child = e.reference;
-        times[child] = times[child] + 1;
-        i += 1;
+    for e in n.held() {
+        times[e.reference] += 1;
     }
 }
 
 // Adds those of one slot to those of the slots before it. The children are slots of the table by rule 5.
-fn count_at(table: &[i32], slot: usize, times: &mut [usize; Table::SLOTS])
-    requires table_len { (length table.now ≡ LENGTH) × (slot < SLOTS) × (rule5 table.now slot ≡ true) }
+fn count_at(table: &Words, slot: usize, times: &mut [usize; Table::SLOTS])
+    requires children { (slot < SLOTS) × (rule5 table.now slot ≡ true) }
     requires so_far { Tally times.old (join (refs_at table.now) (up_from 0 slot)) }
     ensures { Tally times.new (join (refs_at table.now) (up_from 0 (slot + 1))) }
 {
@@ -45,8 +39,8 @@ fn count_at(table: &[i32], slot: usize, times: &mut [usize; Table::SLOTS])
 }
 
 // How many points a slot holds, if it is a leaf.
-fn points_at(table: &[i32], slot: usize) -> usize
-    requires { (length table.now ≡ LENGTH) × (slot < SLOTS) }
+fn points_at(table: &Words, slot: usize) -> usize
+    requires { slot < SLOTS }
     ensures { result ≡ length (stations_at table.now slot) }
 {
     if slot::level_at(table, slot) != 0 {
@@ -57,22 +51,19 @@ fn points_at(table: &[i32], slot: usize) -> usize
 }
 
 // How many points the leaves hold.
-pub fn leaf_entries(table: &[i32]) -> usize
-    requires { length table.now ≡ LENGTH }
+pub fn leaf_entries(table: &Words) -> usize
     ensures { result ≡ length (stations table.now) }
 {
     let mut points = 0;
-    let mut slot = 0;
-    while slot < Table::SLOTS {
-        points = points + points_at(table, slot);
-        slot += 1;
+    for slot in 0..Table::SLOTS {
+        points += points_at(table, slot);
     }
     points
 }
 
 // Each used slot but the root is referred to once; the root never.
-pub fn rule7_at(table: &[i32], slot: usize, times: &[usize; Table::SLOTS]) -> bool
-    requires { (length table.now ≡ LENGTH) × (slot < SLOTS) × Tally times.now (join (refs_at table.now) slots) }
+pub fn rule7_at(table: &Words, slot: usize, times: &[usize; Table::SLOTS]) -> bool
+    requires { (slot < SLOTS) × Tally times.now (join (refs_at table.now) slots) }
     ensures { result ≡ rule7 table.now slot }
 {
     if slot::is_free(table, slot) {
@@ -85,23 +76,20 @@ pub fn rule7_at(table: &[i32], slot: usize, times: &[usize; Table::SLOTS]) -> bo
 }
 
 // Whether word 1 is the number of leaf entries.
-pub fn points_agree(table: &[i32]) -> bool
-    requires { length table.now ≡ LENGTH }
+pub fn points_agree(table: &Words) -> bool
     ensures { result ≡ rule7_header table.now }
 {
     slot::points_of(table) == leaf_entries(table)
 }
 
-// The lowest slot where rule 7 is broken; Table::SLOTS if it holds at every one.
-pub fn rule7_first(table: &[i32]) -> usize
-    requires { (length table.now ≡ LENGTH) × (every (rule5 table.now) slots ≡ true) }
+// The lowest slot where rule 7 is broken; none if it holds at every one.
+pub fn rule7_first(table: &Words) -> Option<usize>
+    requires { every (rule5 table.now) slots ≡ true }
     ensures { Lowest (rule7 table.now) SLOTS result }
 {
     let mut times = [0; Table::SLOTS];
-    let mut slot = 0;
-    while slot < Table::SLOTS {
+    for slot in 0..Table::SLOTS {
         count_at(table, slot, &mut times);
-        slot += 1;
     }
-    asked::first_broken(table, Rule::Seven, &times)
+    asked::first_broken(|slot| rule7_at(table, slot, &times))
 }

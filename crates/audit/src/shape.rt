@@ -1,11 +1,11 @@
 // Rules 1 and 3: what each slot looks like by itself.
 ghost use Rattle.std.specs.Prelude.{◌≡◌, ◌≤◌, ◌<◌, length, drop};
 ghost use Rattle.order.specs.Lists.{every};
-ghost use Rattle.figures.specs.Figures.{SLOTS, LENGTH};
+ghost use Rattle.figures.specs.Figures.{SLOTS};
 ghost use Rattle.table.specs.Words.{is_zero};
 ghost use Rattle.rules.specs.Rules.{rule1, rule3, least_fill};
 
-use figures::Table;
+use figures::{Table, Words};
 use table::{part, slot};
 use words::border;
 
@@ -17,24 +17,15 @@ pub fn zeros_from(part: &[i32], from: usize) -> bool
     requires { from ≤ length part.now }
     ensures { result ≡ every is_zero (drop from part.now) }
 {
-    let mut at = from;
-    while at < part.len() {
-        if border::steps_at(part, at) != ZERO {
-            return false;
-        }
-        at += 1;
-    }
-    true
+    part[from..].iter().all(|word| border::steps(*word) == ZERO)
 }
 
 // Rule 1: a free slot has 41 zeros after its level; words of unused entries are zero in every slot.
-pub fn rule1_at(table: &[i32], slot: usize) -> bool
-    requires { (length table.now ≡ LENGTH) × (slot < SLOTS) }
+pub fn rule1_at(table: &Words, slot: usize) -> bool
+    requires { slot < SLOTS }
     ensures { result ≡ rule1 table.now slot }
 {
-    let a = 2 + Table::WIDTH * slot;
-    let e = a + Table::WIDTH;
-    let words = &table[a..e];
+    let words = slot::part_of(table, slot);
     if part::is_free_part(words) {
         return zeros_from(words, 1);
     }
@@ -42,8 +33,8 @@ pub fn rule1_at(table: &[i32], slot: usize) -> bool
 }
 
 // The least entries of a used slot: a root leaf 1, a root above 2, any other node 3.
-pub fn least_fill(table: &[i32], slot: usize) -> usize
-    requires { (length table.now ≡ LENGTH) × (slot < SLOTS) }
+pub fn least_fill(table: &Words, slot: usize) -> usize
+    requires { slot < SLOTS }
     ensures { result ≡ least_fill table.now slot }
 {
     if slot::root_of(table) != slot {
@@ -57,18 +48,18 @@ pub fn least_fill(table: &[i32], slot: usize) -> usize
 }
 
 // Rule 3: a used slot has level 0 or more, and as many entries as its place in the tree asks.
-pub fn rule3_at(table: &[i32], slot: usize) -> bool
-    requires { (length table.now ≡ LENGTH) × (slot < SLOTS) }
+pub fn rule3_at(table: &Words, slot: usize) -> bool
+    requires { slot < SLOTS }
     ensures { result ≡ rule3 table.now slot }
 {
     if slot::is_free(table, slot) {
         return true;
     }
-    let start = 2 + Table::WIDTH * slot;
-    if border::steps_at(table, start) < ZERO {
+    let words = slot::part_of(table, slot);
+    if border::steps_at(words, 0) < ZERO {
         return false;
     }
-    let said = border::natural_at(table, start + 1);
+    let said = border::natural_at(words, 1);
     if said < least_fill(table, slot) {
         return false;
     }

@@ -1,5 +1,5 @@
 -- What a node by value holds at a place is what its array has there. Assumes nothing.
-use Prim.Native.Nat.{ℕ, ◌-◌, ◌≤◌, ◌<◌}
+use Prim.Native.Nat.{ℕ, ◌-◌, ◌<◌}
 use native.Mathlib.Omega.{arith}
 use mathlib.Core.Path.{◌≡◌, refl, sym, ap, subst, ◌∙◌}
 use mathlib.Core.List.{List, [], ◌∷◌, map}
@@ -21,18 +21,13 @@ use Rattle.change.specs.Share.{lined}
 pub held_at : (n : Node) (i : ℕ) → i < n.count → get_or (held n) i blank_entry ≡ get_or n.entries i blank_entry
 held_at n i h = get_or-take n.count n.entries i blank_entry h
 
-pub held_all : (Q : Entry → Type 0) (n : Node) (i : ℕ) → length n.entries ≡ 10 → n.count ≤ 10 → i < n.count → All Q (held n)
-    → Q (get_or n.entries i blank_entry)
-held_all Q n i full few h a =
-    subst Q (held_at n i h) (all_at Q (held n) i blank_entry (omega (arith, held_length n full few)) a)
-
 -- ---- the entries by a row of places
 
 pick_held : (n : Node) (is : List ℕ) → All (λ i. i < n.count) is → pick n.entries blank_entry is ≡ pick (held n) blank_entry is
 pick_held n [] a = refl
 pick_held n (i ∷ is) a = cc (held_at n i a.0, pick_held n is a.1)
 
-module _ (n : Node) (axis : Axis) (row : List ℕ) {sums : List ℕ} (full : length n.entries ≡ 10) (few : n.count ≤ 10)
+module _ (n : Node) (axis : Axis) (row : List ℕ) {sums : List ℕ} (full : length n.entries ≡ 10)
     (longer : axis ≡ longer_axis (cover_of (held n))) (keys : sums ≡ map (λ e. sum_on axis e.rect) (held n))
     (made : row ≡ row_of sums) where
   abbrev key : Entry → ℕ
@@ -42,10 +37,10 @@ module _ (n : Node) (axis : Axis) (row : List ℕ) {sums : List ℕ} (full : len
   keys_are = keys ∙ ap (λ a. map (λ e. sum_on a e.rect) (held n)) longer
 
   keys_many : length (map key (held n)) ≡ n.count
-  keys_many = length-map (held n) key ∙ held_length n full few
+  keys_many = length-map (held n) key ∙ held_length n full
 
   pub row_small : All (λ i. i < 10) row
-  row_small = subst (λ r. All (λ i. i < 10) r) (sym (made ∙ ap row_of keys_are)) (row_below (map key (held n)) (omega (arith, keys_many)))
+  row_small = subst (λ r. All (λ i. i < 10) r) (sym (made ∙ ap row_of keys_are)) (row_below (map key (held n)) (omega (arith, keys_many, n.room)))
 
   pub row_lined : pick n.entries blank_entry (take n.count row) ≡ lined (held n)
   unfolding lined

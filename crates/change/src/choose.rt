@@ -1,5 +1,5 @@
 // The way down: which entry takes a newcomer.
-ghost use Rattle.std.specs.Prelude.{◌≡◌, ◌≤◌, ◌<◌};
+ghost use Rattle.std.specs.Prelude.{◌≡◌, ◌<◌};
 ghost use Rattle.grid.specs.Place.{RectOnGrid};
 ghost use Rattle.order.specs.Lists.{All};
 ghost use Rattle.table.specs.Page.{held};
@@ -12,13 +12,7 @@ use table::node::Node;
 pub fn is_better(g: u64, a: u64, h: u64, b: u64) -> bool
     ensures { result ≡ better g a h b }
 {
-    if g < h {
-        return true;
-    }
-    if h < g {
-        return false;
-    }
-    a < b
+    (g, a) < (h, b)
 }
 
 // Whether rectangle r takes the newcomer before rectangle s.
@@ -31,19 +25,14 @@ fn takes_before(new: Rect, r: Rect, s: Rect) -> bool
 
 // The place of the entry that takes the newcomer; of equal ones the lowest, so a later one must be better.
 pub fn choose(n: Node, new: Rect) -> usize
-    requires { (0 < n.count) × (n.count ≤ 10) × RectOnGrid new × All (λ e. RectOnGrid e.rect) (held n) }
+    requires { (0 < n.count) × RectOnGrid new × All (λ e. RectOnGrid e.rect) (held n) }
     ensures { result ≡ chosen new (held n) }
 {
-    let count = n.count;
     let mut best = 0;
-    let mut k = 1;
-    while k < count {
-        let e = n.entries[k];
-        let b = n.entries[best];
-        if takes_before(new, e.rect, b.rect) {
+    for k in 1..n.count {
+        if takes_before(new, n.entries[k].rect, n.entries[best].rect) {
             best = k;
         }
-        k += 1;
     }
     best
 }

@@ -1,5 +1,5 @@
 // More than eight entries in the order in which two nodes share them.
-ghost use Rattle.std.specs.Prelude.{◌≡◌, map, ◌≤◌, ◌<◌, take};
+ghost use Rattle.std.specs.Prelude.{◌≡◌, map, ◌<◌, take};
 ghost use Rattle.grid.specs.Place.{RectOnGrid, sum_on};
 ghost use Rattle.order.specs.Lists.{All};
 ghost use Rattle.order.specs.Order.{pick, key_in, Marks};
@@ -12,41 +12,36 @@ use table::node::Node;
 
 // What the entries are ordered by: low + high on the axis, each with its place.
 fn marks_on(n: Node, axis: Axis) -> [u64; order::MOST]
-    requires { (n.count ≤ 10) × All (λ e. RectOnGrid e.rect) (held n) }
+    requires { All (λ e. RectOnGrid e.rect) (held n) }
     ensures marks { Marks n.count result }
     ensures sums { map key_in (take n.count result) ≡ map (λ e. sum_on axis e.rect) (held n) }
 {
-    let count = n.count;
     let mut marks = [order::NONE; order::MOST];
-    let mut k = 0;
-    while k < count {
-        let e = n.entries[k];
+    for (k, e) in n.held().iter().enumerate() {
         marks[k] = order::mark(e.rect.sum_on(axis), k);
-        k += 1;
     }
     marks
 }
 
 // The entries as the row has their places.
 fn placed_by(n: Node, row: [usize; order::MOST]) -> Node
-    requires { (n.count ≤ 10) × All (λ i. i < 10) row }
+    requires { All (λ i. i < 10) row }
     ensures { Shows result (page n.level (pick n.entries blank_entry (take n.count row))) }
 {
-    let count = n.count;
-    let mut m = n;
-    let mut k = 0;
-    while k < count {
-        let place = row[k];
-        let e = n.entries[place];
-        m.entries[k] = e;
-        k += 1;
+    let mut entries = n.entries;
+    for k in 0..n.count {
+        entries[k] = n.entries[row[k]];
     }
-    m
+    Node {
+        level: n.level,
+        count: n.count,
+        entries,
+    }
 }
 
 // By low + high on the axis where the covering box is longer; ties keep their order.
 pub fn lined(n: Node) -> Node
-    requires { (n.count ≤ 10) × All (λ e. RectOnGrid e.rect) (held n) }
+    requires { All (λ e. RectOnGrid e.rect) (held n) }
     ensures { Shows result (page n.level (lined_of (held n))) }
 {
     let axis = n.cover().longer();

@@ -5,19 +5,15 @@ use mathlib.Core.List.{List, [], ◌∷◌}
 use native.Mathlib.Omega.{arith}
 use lib.IntN.{ℤ}
 use lib.ListN.{length, take}
-use Rattle.limits.proofs.Refused.{if_refused}
 use Rattle.grid.specs.Site.{site}
-use Rattle.table.specs.declared.given.Given.{Given}
-use Rattle.table.specs.declared.given.Given.TheVariants as variant
 use Rattle.table.specs.Words.{Words}
-use Rattle.table.specs.Given.{number_given, if_done}
+use Rattle.table.specs.Given.{Given, Done, number_given, if_done}
 use Rattle.table.specs.Stations.{stations}
 use Rattle.filter.specs.Query.{answers_found}
 use Rattle.card.specs.Card.{names_for}
 use Rattle.words.specs.Word.{nat_of}
 use Rattle.asking.specs.Slate.{Slate}
-use Rattle.refusals.specs.declared.answered.Answered.{Answered}
-use Rattle.refusals.specs.declared.carding.Carded.{Carded}
+use Rattle.refusals.specs.Told.{Answered, Carded}
 use Rattle.refusals.specs.Refusals.{enrol_gives, withdraw_gives, query_gives, card_gives}
 use Rattle.desk.specs.Calls.{after_enrol, after_withdraw, Queried, after_query, after_card}
 use Rattle.desk.specs.Lent.{queried}
@@ -83,25 +79,17 @@ module _ (number : ℕ) (l : State) (out : Bytes) (at : ℕ) (left : Bytes) (nex
 pub record Lists (job : Job) (ws : Words) (old new : List ℕ) (g : Given) (n : ℕ) (more : List ℕ) : Type 0 where
   pub said : ◌≡◌ {A = Ran} (record { state = lent ws new; given = g; more = if_done g more [] }) (ran_job (lent ws old) job)
   -- the list has room for them
-  pub room : g ≡ variant.Done → n ≤ length old
+  pub room : g ≡ Done → n ≤ length old
 
 module _ {number : ℕ} {job : Job} {ws : Words} {old new : List ℕ} {g : Given} {n : ℕ} {more : List ℕ} {out : Bytes} {at : ℕ} {left : Bytes} {next : ℕ}
     (lists : Lists job ws old new g n more) where
-  list_ran : (b : ℕ) (ms : List ℕ) → b ≡ number_given g → ms ≡ if_done g more [] → Laid out at (output_line number (letter_of job) b ms) left next
+  pub list_ran : {b : ℕ} {ms : List ℕ} → b ≡ number_given g → ms ≡ if_done g more [] → Laid out at (output_line number (letter_of job) b ms) left next
       → RanJob number job (lent ws old) (lent ws new) out at left next
   unfolding job_output
-  list_ran b ms e m h = record {
+  list_ran e m h = record {
     state = ap (λ r. r.state) lists.said;
     laid = subst (λ r. Laid out at (output_line number (letter_of job) (number_given r.given) r.more) left next) lists.said (rw (← e, ← m) h);
   }
-
-  pub refused_ran : {b : ℕ} → (g ≡ variant.Done → ⊥) → b ≡ number_given g → Laid out at (output_line number (letter_of job) b []) left next
-      → RanJob number job (lent ws old) (lent ws new) out at left next
-  refused_ran {b} d e h = list_ran b [] e (sym (if_refused g d more [])) h
-
-  pub granted_ran : g ≡ variant.Done → Laid out at (output_line number (letter_of job) 0 more) left next
-      → RanJob number job (lent ws old) (lent ws new) out at left next
-  granted_ran d h = list_ran 0 more (ap number_given (sym d)) (ap (λ x. if_done x more []) (sym d)) h
 
 -- ---- a query
 
@@ -113,12 +101,12 @@ module _ {ws : Words} {a b k : ℤ} {s t : Slate} {old new : List ℕ} {r : Answ
   says : queried r asked.candidates new ≡ asked
   says = queried_ext told.given told.counts refl told.answers
 
-  answers_room : r.given ≡ variant.Done → r.n ≤ length old
+  answers_room : r.given ≡ Done → r.n ≤ length old
   unfolding after_query
   answers_room d =
       let q = site a b in
       let g = query_gives ws q k (length blank_list) (length old) in
-      let e : g ≡ variant.Done = sym told.given ∙ d in
+      let e : g ≡ Done = sym told.given ∙ d in
       let n : r.n ≡ length (answers_found ws q (nat_of k)) = ap (λ t. t.n) told.counts ∙ rw e in
       omega (arith, (query_granted ws q k (length blank_list) (length old) e).1)
 
@@ -128,11 +116,11 @@ module _ {ws : Words} {a b k : ℤ} {s t : Slate} {old new : List ℕ} {r : Answ
 -- ---- a card
 
 module _ (ws : Words) (n k : ℤ) (old new : List ℕ) (r : Carded) (told : Cards ws n k old new r) where
-  names_room : r.given ≡ variant.Done → r.names ≤ length old
+  names_room : r.given ≡ Done → r.names ≤ length old
   unfolding after_card
   names_room d =
       let g = card_gives ws n k (length old) in
-      let e : g ≡ variant.Done = sym (ap (λ l. l.given) told) ∙ d in
+      let e : g ≡ Done = sym (ap (λ l. l.given) told) ∙ d in
       let m : r.names ≡ length (names_for (stations ws) (nat_of n) (nat_of k)) = ap (λ l. l.names) told ∙ rw e in
       omega (arith, (card_granted ws n k (length old) e).1)
 

@@ -4,8 +4,7 @@ use lib.IntN.{ℤ}
 use Rattle.limits.proofs.Refused.{if_refused}
 use Rattle.words.specs.Word.{nat_of}
 use Rattle.grid.specs.declared.site.Site.{Site}
-use Rattle.table.specs.declared.given.Given.{Given}
-use Rattle.table.specs.declared.given.Given.TheVariants.{Done}
+use Rattle.table.specs.Given.{Given, Done}
 use Rattle.table.specs.Words.{Words}
 use Rattle.joining.specs.Enrol.{enrolled}
 use Rattle.leaving.specs.Withdraw.{withdrawn}

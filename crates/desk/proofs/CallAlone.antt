@@ -6,15 +6,15 @@ use mathlib.Core.List.{List}
 use lib.Dec.{ltb}
 use lib.IntN.{ℤ}
 use lib.ListN.{length, length-replicate}
+use Rattle.std.specs.Prelude.{Err}
 use Rattle.limits.proofs.Refused.{if_refused}
 use Rattle.words.specs.Word.{nat_of}
 use Rattle.grid.specs.declared.site.Site.{Site}
 use Rattle.order.proofs.Lists.{by_bool}
 use Rattle.figures.specs.Figures.{MOST}
-use Rattle.table.specs.declared.given.Given.{Given}
-use Rattle.table.specs.declared.given.Given.TheVariants.{Done, ShortList}
+use Rattle.table.specs.declared.given.Refusal.TheVariants.{ShortList}
 use Rattle.table.specs.Words.{Words}
-use Rattle.table.specs.Given.{if_done}
+use Rattle.table.specs.Given.{Given, Done, if_done}
 use Rattle.filter.specs.Query.{Counts, records_found, answers_found, counts_of, laid_over}
 use Rattle.record.specs.declared.Candidate.{Candidate}
 use Rattle.record.specs.Blank.{none}
@@ -22,10 +22,9 @@ use Rattle.asking.specs.declared.answer.Reply.{Reply}
 use Rattle.asking.specs.Slate.{Slate, slate_after}
 use Rattle.asking.specs.Asked.{Replied}
 use Rattle.listing.specs.Listed.{Listed}
-use Rattle.refusals.specs.declared.answered.Answered.{Answered}
 use Rattle.refusals.specs.Refusals.{query_gives}
 use Rattle.refusals.specs.Cases.{if_short_list}
-use Rattle.refusals.specs.Told.{told}
+use Rattle.refusals.specs.Told.{Answered, told}
 use Rattle.desk.specs.Calls.{Queried, after_query, zero_counts, only_n}
 use Rattle.desk.specs.Lent.{queried, Answers}
 use Rattle.desk.specs.Alone.{blank_list, slate_left, AnswersAlone, SameAnswers, AnyList}
@@ -91,7 +90,7 @@ module _ (ws : Words) (q : Site) (k : ℤ) where
         counts = same.counts;
         answers = same.answers;
         slate = r.slate ∙ rw (query_late ws q k MOST e done (length old))
-            (by_bool (λ b. written ≡ if_done (cond b ShortList Done) written (if_short_list (cond b ShortList Done) written before)) (ltb (length old) (answers_told ws q k)) (λ _. refl) (λ _. refl));
+            (by_bool (λ b. written ≡ if_done (cond b (Err ShortList) Done) written (if_short_list (cond b (Err ShortList) Done) written before)) (ltb (length old) (answers_told ws q k)) (λ _. refl) (λ _. refl));
       }
 
 -- any two outcomes that the promise permits are equal

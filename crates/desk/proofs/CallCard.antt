@@ -9,19 +9,19 @@ use lib.Dec.{eqb, ltb}
 use lib.IntN.{ℤ}
 use lib.ListN.{length}
 use borrow.Author.Tests.{eqb-true, eq-eqb, ltb-true, ltb-false, lt-ltb, le-ltb, lt-leb, le-leb}
+use Rattle.std.specs.Prelude.{Err}
 use Rattle.limits.proofs.Refused.{if_refused}
 use Rattle.words.specs.Word.{nat_of}
 use Rattle.order.specs.Lists.{filter, has, Mem, NoDup}
 use Rattle.order.proofs.Lists.{by_bool, filter_mem, mem_filter, has_mem, nodup_one}
-use Rattle.table.specs.declared.given.Given.{Given}
-use Rattle.table.specs.declared.given.Given.TheVariants.{Done, ShortList}
+use Rattle.table.specs.declared.given.Refusal.TheVariants.{ShortList}
 use Rattle.table.specs.Words.{Words}
 use Rattle.table.specs.Stations.{Station, stations}
-use Rattle.table.specs.Given.{if_done}
+use Rattle.table.specs.Given.{Given, Done, if_done}
 use Rattle.filter.specs.Query.{laid_over}
 use Rattle.card.specs.Card.{names_of, names_of_first, names_for}
 use Rattle.naming.specs.Named.{Named}
-use Rattle.refusals.specs.declared.carding.Carded.{Carded}
+use Rattle.refusals.specs.Told.{Carded}
 use Rattle.refusals.specs.Refusals.{card_gives}
 use Rattle.refusals.specs.Cases.{if_short_list}
 use Rattle.refusals.specs.Carding.{carded, card_told}
@@ -44,7 +44,7 @@ module _ (ws : Words) (n k : ℤ) (old : List ℕ) where
   unfolding after_card
   after_is e = ap (λ g. outcome g its old) e
 
-  pub card_refused_is : {g : Given} → g ≡ card_gives ws n k (length old) → (g ≡ Done → ⊥) → (g ≡ ShortList → ⊥) → Cards ws n k old old (carded g 0)
+  pub card_refused_is : {g : Given} → g ≡ card_gives ws n k (length old) → (g ≡ Done → ⊥) → (g ≡ Err ShortList → ⊥) → Cards ws n k old old (carded g 0)
   card_refused_is {g} e refused long =
       listed_ext refl
       (sym (if_refused g refused (length its) (if_short_list g (length its) 0) ∙ if_not_few g long (length its) 0))
@@ -52,7 +52,7 @@ module _ (ws : Words) (n k : ℤ) (old : List ℕ) where
       ∙ after_is e
 
   -- the list decides
-  pub card_told_is : (r : ℕ) (new : List ℕ) (places : ℕ) → card_gives ws n k (length old) ≡ cond (ltb (length old) (length its)) ShortList Done
+  pub card_told_is : (r : ℕ) (new : List ℕ) (places : ℕ) → card_gives ws n k (length old) ≡ cond (ltb (length old) (length its)) (Err ShortList) Done
       → Named ws (nat_of n) (nat_of k) old new r → places ≡ length old → Cards ws n k old new (card_told r places)
   card_told_is r new places e h same =
       by_bool (λ b. ltb (length old) (length its) ≡ b → Cards ws n k old new (card_told r places)) (ltb (length old) (length its))
@@ -60,12 +60,12 @@ module _ (ws : Words) (n k : ℤ) (old : List ℕ) where
       let less : length old < r = omega (arith, ltb-true (length old) (length its) short, h.names) in
       ap (λ a. listed a new) (ap (λ b. cond b (carded ShortList r) (carded Done r)) (lt-ltb places r (omega arith)))
       ∙ listed_ext refl h.names (h.list ∙ ap (λ b. cond b (laid_over its old) old) (lt-leb r (length old) less))
-      ∙ after_is (sym (e ∙ ap (λ b. cond b ShortList Done) short)))
+      ∙ after_is (sym (e ∙ ap (λ b. cond b (Err ShortList) Done) short)))
       (λ t long.
       let room = ltb-false (length old) (length its) long in
       ap (λ a. listed a new) (ap (λ b. cond b (carded ShortList r) (carded Done r)) (le-ltb places r (omega (arith, h.names))))
       ∙ listed_ext refl h.names (h.list ∙ ap (λ b. cond b (laid_over its old) old) (le-leb r (length old) (omega (arith, h.names))))
-      ∙ after_is (sym (e ∙ ap (λ b. cond b ShortList Done) long)))
+      ∙ after_is (sym (e ∙ ap (λ b. cond b (Err ShortList) Done) long)))
       refl
 
 carded_ext : {a b : Carded} → a.given ≡ b.given → a.names ≡ b.names → a ≡ b

@@ -9,15 +9,16 @@ use lib.Dec.{T, ltb}
 use lib.IntN.{ℤ}
 use lib.ListN.{length}
 use borrow.Author.Tests.{lt-ltb, le-ltb, le-leb, lt-leb}
+use Rattle.std.specs.Prelude.{Err}
 use Rattle.words.specs.Word.{nat_of}
 use Rattle.grid.specs.declared.site.Site.{Site}
 use Rattle.order.specs.Lists.{one}
 use Rattle.order.proofs.Lists.{by_leb}
-use Rattle.table.specs.declared.given.Given.{Given}
-use Rattle.table.specs.declared.given.Given.TheVariants.{Done, ShortList}
+use Rattle.table.specs.declared.given.Refusal.TheVariants.{ShortList}
+use Rattle.table.specs.Given.{Given, Done}
 use Rattle.table.specs.Words.{Words}
 use Rattle.filter.specs.Query.{answers_found, laid_over}
-use Rattle.filter.proofs.Rows.{laid_length}
+use Rattle.filter.proofs.RowLaws.{laid_length}
 use Rattle.asking.specs.declared.answer.Reply.{Reply}
 use Rattle.record.specs.declared.Candidate.{Candidate}
 use Rattle.listing.specs.Listed.{Listed}
@@ -59,10 +60,10 @@ module _ (ws : Words) (q : Site) (k : ℤ) where
 
   module _ (before after : List Candidate) (old new : List ℕ) (reply : Reply) (r : Listed ws q (nat_of k) before after old new reply)
       {g : Given} (e : g ≡ query_gives ws q k (length before) (answers_told ws q k)) (done : g ≡ Done) where
-    last : query_gives ws q k (length before) (length old) ≡ cond (ltb (length old) reply.n) ShortList Done
+    last : query_gives ws q k (length before) (length old) ≡ cond (ltb (length old) reply.n) (Err ShortList) Done
     last =
         query_late ws q k (length before) e done (length old)
-        ∙ ap (λ m. cond (ltb (length old) m) ShortList Done) (sym r.n)
+        ∙ ap (λ m. cond (ltb (length old) m) (Err ShortList) Done) (sym r.n)
 
     -- the answer list is as long as it was
     new_length : length new ≡ length old
@@ -75,7 +76,7 @@ module _ (ws : Words) (q : Site) (k : ℤ) where
     list_few : length new < reply.n → Answers ws q k before after old new (n_alone reply.n)
     unfolding after_query
     list_few short =
-        let h : query_gives ws q k (length before) (length old) ≡ ShortList = last ∙ rw (lt-ltb (length old) reply.n (omega (arith, new_length))) in
+        let h : query_gives ws q k (length before) (length old) ≡ Err ShortList = last ∙ rw (lt-ltb (length old) reply.n (omega (arith, new_length))) in
         let kept : new ≡ old = r.answers ∙ rw (lt-leb (answers_told ws q k) (length old) (omega (arith, new_length, r.n))) in
         rw h (queried_ext refl (counts_ext r.n refl refl) r.candidates kept)
 

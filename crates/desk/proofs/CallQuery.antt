@@ -4,14 +4,15 @@ use mathlib.Core.Path.{◌≡◌, refl, sym, ap, ◌∙◌}
 use mathlib.Core.List.{List}
 use lib.IntN.{ℤ}
 use lib.ListN.{length}
+use Rattle.std.specs.Prelude.{Err}
 use Rattle.limits.proofs.Refused.{if_refused}
 use Rattle.grid.specs.declared.site.Site.{Site}
-use Rattle.table.specs.declared.given.Given.{Given}
-use Rattle.table.specs.declared.given.Given.TheVariants.{Done, ShortList}
+use Rattle.table.specs.declared.given.Refusal.TheVariants.{ShortList}
+use Rattle.table.specs.Given.{Given, Done}
 use Rattle.table.specs.Words.{Words}
 use Rattle.filter.specs.Query.{Counts}
 use Rattle.record.specs.declared.Candidate.{Candidate}
-use Rattle.refusals.specs.declared.answered.Answered.{Answered}
+use Rattle.refusals.specs.Told.{Answered}
 use Rattle.refusals.specs.Refusals.{query_gives}
 use Rattle.desk.specs.Calls.{Queried, after_query}
 use Rattle.desk.specs.Lent.{queried}
@@ -26,7 +27,7 @@ pub counts_ext : {a b : Counts} → a.n ≡ b.n → a.m ≡ b.m → a.o ≡ b.o 
 counts_ext n m o = λ i. record { n = n i; m = m i; o = o i }
 
 module _ (ws : Words) (q : Site) (k : ℤ) where
-  pub after_refused : (cs : List Candidate) (out : List ℕ) {g : Given} → g ≡ query_gives ws q k (length cs) (length out) → (g ≡ Done → ⊥) → (g ≡ ShortList → ⊥)
+  pub after_refused : (cs : List Candidate) (out : List ℕ) {g : Given} → g ≡ query_gives ws q k (length cs) (length out) → (g ≡ Done → ⊥) → (g ≡ Err ShortList → ⊥)
       → queried (record { given = g; n = 0; m = 0; o = 0 }) cs out ≡ after_query ws q k cs out
   unfolding after_query
   after_refused cs out {g} e d f =

@@ -12,9 +12,7 @@ use Rattle.words.specs.Word.{nat_of}
 use Rattle.order.specs.Order.{Perm, pskip, ptrans}
 use Rattle.order.proofs.Perm.{prefl}
 use Rattle.order.specs.Lists.{All}
-use Rattle.table.specs.declared.given.Given.{Given}
-use Rattle.table.specs.declared.given.Given.TheVariants.{Done}
-use Rattle.table.specs.Given.{Line, number_given, first_of, if_done}
+use Rattle.table.specs.Given.{Given, Done, Line, number_given, first_of, if_done}
 use Rattle.audit.specs.Check.{check_lines, check_gives}
 use Rattle.table.specs.Words.{Words}
 use Rattle.table.specs.Stations.{Station, stations}

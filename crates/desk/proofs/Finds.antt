@@ -12,11 +12,10 @@ use Rattle.grid.proofs.Sites.{SiteOnGrid}
 use Rattle.order.specs.Lists.{filter, All}
 use Rattle.order.proofs.Lists.{length_filter, filter_mem, all_mem, mem_all, all_perm, all_then, all_map, count_most}
 use Rattle.order.proofs.Order.{sort_perm, sort_length}
-use Rattle.table.specs.declared.given.Given.TheVariants.{Done}
 use Rattle.figures.specs.Figures.{MOST, HIGHEST}
 use Rattle.table.specs.Words.{Words, points_of}
 use Rattle.table.specs.Stations.{Station, stations, is_point, station_of_entry}
-use Rattle.table.specs.Given.{first_of, if_done}
+use Rattle.table.specs.Given.{Done, first_of, if_done}
 use Rattle.table.specs.Empty.{empty_table}
 use Rattle.rules.specs.Rules.{Passing}
 use Rattle.rules.proofs.Size.{sound_bounds}
@@ -28,7 +27,7 @@ use Rattle.filter.specs.Walk.{Found}
 use Rattle.filter.specs.Query.{record_of, found, records_found, answers_found, laid_over}
 use Rattle.filter.proofs.Answers.{answers_right, candidates_few, candidates_points, opened_few, found_empty, answers_empty, answer_empty}
 use Rattle.filter.proofs.Meaning.{few_all_answer}
-use Rattle.filter.proofs.Rows.{laid_length}
+use Rattle.filter.proofs.RowLaws.{laid_length}
 use Rattle.refusals.specs.Refusals.{numbers_of, query_gives}
 use Rattle.refusals.specs.Cases.{if_short_list}
 use Rattle.desk.specs.Calls.{after_query}

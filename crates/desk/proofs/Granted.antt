@@ -7,29 +7,19 @@ use lib.Dec.{eqb, ltb}
 use lib.IntN.{ℤ}
 use lib.ListN.{length}
 use borrow.Author.Tests.{eqb-true, eq-eqb, leb-true, leb-false, ltb-true, ltb-false, le-ltb, not-false}
+use Rattle.std.specs.Prelude.{Err}
 use Rattle.words.specs.Word.{nat_of, on_grid}
 use Rattle.grid.specs.declared.site.Site.{Site}
 use Rattle.grid.proofs.Sites.{SiteOnGrid}
 use Rattle.order.specs.Lists.{All}
 use Rattle.order.proofs.Lists.{by_bool, and_left, and_right}
-use Rattle.table.specs.declared.given.Given.TheVariants.{
-  Done,
-  WrongLength,
-  NoSuchNumber,
-  OffGrid,
-  NoSuchK,
-  AlreadyEnrolled,
-  Full,
-  NotEnrolled,
-  FewCandidates,
-  ShortList,
-}
+use Rattle.table.specs.declared.given.Refusal.TheVariants.{WrongLength, NoSuchNumber, OffGrid, NoSuchK, AlreadyEnrolled, Full, NotEnrolled, FewCandidates, ShortList}
 use Rattle.figures.specs.Figures.{MOST, LENGTH, HIGHEST}
 use Rattle.table.specs.Words.{Words, points_of, between}
 use Rattle.table.specs.Stations.{stations}
 use Rattle.limits.specs.Limits.{no_such_number, off_grid, no_such_k}
 use Rattle.rules.specs.Rules.{well_formed, Passing}
-use Rattle.table.specs.Given.{Line, line, first_of}
+use Rattle.table.specs.Given.{Done, Line, line, first_of}
 use Rattle.audit.specs.Check.{wrong_length, malformed, check_gives, bad_at}
 use Rattle.filter.specs.Query.{answers_found}
 use Rattle.card.specs.Card.{names_for}
@@ -191,28 +181,28 @@ card_granted ws n k places e =
 -- ---- what a refusal for room means
 
 -- 7: the table has 500 points at least
-pub full_points : (ws : Words) (n : ℤ) (p : Site) → enrol_gives ws n p ≡ Full → MOST ≤ points_of ws
+pub full_points : (ws : Words) (n : ℤ) (p : Site) → enrol_gives ws n p ≡ Err Full → MOST ≤ points_of ws
 unfolding enrol_gives
 full_points ws n p e =
     let last = (passed_before Full (checked ws (before_full ws n p)) (line (is_full ws) Full ∷ []) refl e).1 in
-    leb-true MOST (points_of ws) (last_holds (is_full ws) Full refl last)
+    leb-true MOST (points_of ws) (last_holds (is_full ws) Full last)
 
 -- 10: all is in order but for the answer list, which is shorter than n
-pub query_short : (ws : Words) (q : Site) (k : ℤ) (room places : ℕ) → query_gives ws q k room places ≡ ShortList
+pub query_short : (ws : Words) (q : Site) (k : ℤ) (room places : ℕ) → query_gives ws q k room places ≡ Err ShortList
     → QueryReady ws q k room × (places < length (answers_found ws q (nat_of k)))
 unfolding query_gives
 query_short ws q k room places e =
-    let h = passed_before ShortList (ready_lines ws q k room) (few_answers ws q k places ∷ []) refl e in
-    let last = last_holds (few_answers ws q k places).holds ShortList refl h.1 in
+    let h = passed_before (Err ShortList) (ready_lines ws q k room) (few_answers ws q k places ∷ []) refl e in
+    let last = last_holds (few_answers ws q k places).holds ShortList h.1 in
     (query_ready ws q k room h.0, ltb-true places (length (answers_found ws q (nat_of k))) last)
 
 -- 10: all is in order but for the list, which is shorter than the card
-pub card_short_lem : (ws : Words) (n k : ℤ) (places : ℕ) → card_gives ws n k places ≡ ShortList
+pub card_short_lem : (ws : Words) (n k : ℤ) (places : ℕ) → card_gives ws n k places ≡ Err ShortList
     → CardReady ws n k × (places < length (names_for (stations ws) (nat_of n) (nat_of k)))
 unfolding card_gives
 card_short_lem ws n k places e =
-    let h = passed_before ShortList (checked ws (before_short ws n k)) (few_names ws n k places ∷ []) refl e in
-    let last = last_holds (few_names ws n k places).holds ShortList refl h.1 in
+    let h = passed_before (Err ShortList) (checked ws (before_short ws n k)) (few_names ws n k places ∷ []) refl e in
+    let last = last_holds (few_names ws n k places).holds ShortList h.1 in
     (card_ready ws n k h.0, ltb-true places (length (names_for (stations ws) (nat_of n) (nat_of k))) last)
 
 -- ---- on a table that passes the check
@@ -249,5 +239,5 @@ module _ {ws : Words} (passing : Passing ws) where
       let enough : off_grid q ≡ false → first_of rest ≡ Done = λ e.
       all_passed rest (le-ltb room (points_of ws) few, (le-ltb places (length (answers_found ws q (nat_of k))) (fits (on_grid_lem q e)), tt)) in
       checked_passed (query_lines q k rest)
-      ∙ by_bool (λ b. off_grid q ≡ b → cond b OffGrid (cond (no_such_k k) NoSuchK (first_of rest)) ≡ cond b OffGrid (cond (no_such_k k) NoSuchK Done)) (off_grid q)
-      (λ t e. refl) (λ f e. ap (cond (no_such_k k) NoSuchK) (enough e)) refl
+      ∙ by_bool (λ b. off_grid q ≡ b → cond b (Err OffGrid) (cond (no_such_k k) (Err NoSuchK) (first_of rest)) ≡ cond b (Err OffGrid) (cond (no_such_k k) (Err NoSuchK) Done)) (off_grid q)
+      (λ t e. refl) (λ f e. ap (cond (no_such_k k) (Err NoSuchK)) (enough e)) refl

@@ -19,8 +19,8 @@ use Rattle.order.specs.Order.{Perm, pnil, pskip, ptrans}
 use Rattle.order.proofs.Perm.{prefl, psym, perm_map, perm_mem, perm_length}
 use Rattle.order.proofs.Lists.{by_bool, mem_front, all_mem, perm_nodup}
 use Rattle.table.specs.declared.node.Entry.{Entry}
-use Rattle.table.specs.declared.given.Given.TheVariants.{Done}
 use Rattle.figures.specs.Figures.{HIGHEST}
+use Rattle.table.specs.Given.{Done}
 use Rattle.table.specs.Words.{Words}
 use Rattle.table.specs.Stations.{Station, station_of_entry, stations, span_is_spot, is_point}
 use Rattle.table.specs.Empty.{empty_table}

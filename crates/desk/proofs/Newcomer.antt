@@ -9,7 +9,7 @@ use lib.IntN.{ℤ}
 use Rattle.words.specs.Word.{nat_of}
 use Rattle.grid.specs.declared.site.Site.{Site}
 use Rattle.order.proofs.Lists.{by_bool, mem_all, has_mem}
-use Rattle.table.specs.declared.given.Given.TheVariants.{Done}
+use Rattle.table.specs.Given.{Done}
 use Rattle.table.specs.Words.{Words}
 use Rattle.table.specs.Stations.{stations}
 use Rattle.rules.specs.Rules.{Passing}

@@ -8,7 +8,7 @@ use Rattle.record.specs.declared.Candidate.{Candidate}
 use Rattle.record.specs.Blank.{none}
 use Rattle.table.specs.Given.{if_done}
 use Rattle.asking.specs.Slate.{Slate, slate_after}
-use Rattle.refusals.specs.declared.answered.Answered.{Answered}
+use Rattle.refusals.specs.Told.{Answered}
 use Rattle.refusals.specs.Refusals.{query_gives}
 use Rattle.refusals.specs.Cases.{if_short_list}
 use Rattle.desk.specs.Calls.{Queried, after_query}

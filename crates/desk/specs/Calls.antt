@@ -7,13 +7,12 @@ use Rattle.grid.specs.Place.{spot_of}
 use Rattle.table.specs.declared.node.Entry.{Entry}
 use Rattle.table.specs.Words.{Words}
 use Rattle.table.specs.Stations.{stations}
-use Rattle.table.specs.Given.{if_done}
+use Rattle.table.specs.Given.{Given, if_done}
 use Rattle.joining.specs.Enrol.{enrolled}
 use Rattle.leaving.specs.Withdraw.{withdrawn}
 use Rattle.record.specs.declared.Candidate.{Candidate}
 use Rattle.card.specs.Card.{names_for}
 use Rattle.filter.specs.Query.{Counts, records_found, answers_found, counts_of, laid_over}
-use Rattle.table.specs.declared.given.Given.{Given}
 use Rattle.refusals.specs.Refusals.{enrol_gives, withdraw_gives, query_gives, card_gives}
 use Rattle.refusals.specs.Cases.{if_short_list}
 

@@ -1,7 +1,7 @@
 -- A card as the code has it.
 use Rattle.std.specs.Prelude.{ℕ, ◌≡◌, List, ℤ}
 use Rattle.table.specs.Words.{Words}
-use Rattle.refusals.specs.declared.carding.Carded.{Carded}
+use Rattle.refusals.specs.Told.{Carded}
 use Rattle.desk.specs.Calls.{Listed, after_card}
 
 -- what the code hands back, and the list

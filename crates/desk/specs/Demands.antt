@@ -1,12 +1,11 @@
 -- The three demands of the mission, as statements about the calls of `Calls.antt`.
-use Rattle.std.specs.Prelude.{ℕ, ◌≤◌, ◌<◌, ◌≡◌, true, false, not, List, [], ◌∷◌, map, ◌⊎◌, eqb, ℤ, length}
+use Rattle.std.specs.Prelude.{ℕ, ◌≤◌, ◌<◌, ◌≡◌, true, false, not, List, [], ◌∷◌, map, ◌⊎◌, eqb, ℤ, length, Err}
 use Rattle.words.specs.Word.{IsWord, nat_of}
 use Rattle.grid.specs.declared.site.Site.{Site}
 use Rattle.order.specs.Order.{Perm}
 use Rattle.order.specs.Lists.{count, filter, Mem, All}
-use Rattle.table.specs.declared.given.Given.{Given}
-use Rattle.table.specs.declared.given.Given.TheVariants.{Done, Full, ShortList}
-use Rattle.table.specs.Given.{Line, if_done}
+use Rattle.table.specs.declared.given.Refusal.TheVariants.{Full, ShortList}
+use Rattle.table.specs.Given.{Given, Done, Line, if_done}
 use Rattle.figures.specs.Figures.{MOST, SLOTS}
 use Rattle.table.specs.Words.{Words}
 use Rattle.table.specs.Slots.{slots, is_free, level_at}
@@ -48,18 +47,18 @@ pub record Demand1 : Type 0 where
   pub withdraw_refused : (ws : Words) (n : ℤ) → (withdraw_gives ws n ≡ Done → ⊥) → after_withdraw ws n ≡ ws
   -- a refused query: zero counts, and both lists as they were
   pub query_refused : (ws : Words) (q : Site) (k : ℤ) (cs : List Candidate) (out : List ℕ)
-      → ((after_query ws q k cs out).given ≡ Done → ⊥) → ((after_query ws q k cs out).given ≡ ShortList → ⊥)
+      → ((after_query ws q k cs out).given ≡ Done → ⊥) → ((after_query ws q k cs out).given ≡ Err ShortList → ⊥)
       → ((after_query ws q k cs out).counts ≡ zero_counts) × ((after_query ws q k cs out).candidates ≡ cs) × ((after_query ws q k cs out).answers ≡ out)
   -- but for 10: it gives n, leaves the candidate list as a success would, and the answer list as it was
-  pub short : (ws : Words) (q : Site) (k : ℤ) (cs : List Candidate) (out : List ℕ) → (after_query ws q k cs out).given ≡ ShortList
+  pub short : (ws : Words) (q : Site) (k : ℤ) (cs : List Candidate) (out : List ℕ) → (after_query ws q k cs out).given ≡ Err ShortList
       → ((after_query ws q k cs out).counts ≡ only_n (counts_of ws q (nat_of k)))
       × ((after_query ws q k cs out).candidates ≡ laid_over (records_found ws q (nat_of k)) cs)
       × ((after_query ws q k cs out).answers ≡ out)
   -- a refused card: no names, and the list as it was
-  pub card_refused : (ws : Words) (n k : ℤ) (list : List ℕ) → ((after_card ws n k list).given ≡ Done → ⊥) → ((after_card ws n k list).given ≡ ShortList → ⊥)
+  pub card_refused : (ws : Words) (n k : ℤ) (list : List ℕ) → ((after_card ws n k list).given ≡ Done → ⊥) → ((after_card ws n k list).given ≡ Err ShortList → ⊥)
       → ((after_card ws n k list).names ≡ 0) × ((after_card ws n k list).list ≡ list)
   -- but for 10: it gives the card's length, and leaves the list
-  pub card_short : (ws : Words) (n k : ℤ) (list : List ℕ) → (after_card ws n k list).given ≡ ShortList
+  pub card_short : (ws : Words) (n k : ℤ) (list : List ℕ) → (after_card ws n k list).given ≡ Err ShortList
       → ((after_card ws n k list).names ≡ length (names_for (stations ws) (nat_of n) (nat_of k))) × ((after_card ws n k list).list ≡ list)
 
 -- ---- demand 2: a granted query lists, rising, exactly the stations that have fewer than k others as near as the place or nearer (02 §2); its candidates and
@@ -127,7 +126,7 @@ pub record Demand3 (ws : Words) (calls : List Call) : Type 0 where
   pub nodes : count (λ s. not (is_free (table_after_all ws calls) s)) slots ≤ 248
   pub levels : (s : ℕ) → s < SLOTS → is_free (table_after_all ws calls) s ≡ false → level_at (table_after_all ws calls) s ≤ 5
   -- refused for room only at 500
-  pub room : (n : ℤ) (p : Site) → enrol_gives (table_after_all ws calls) n p ≡ Full → length (stations (table_after_all ws calls)) ≡ MOST
+  pub room : (n : ℤ) (p : Site) → enrol_gives (table_after_all ws calls) n p ≡ Err Full → length (stations (table_after_all ws calls)) ≡ MOST
 
 abbrev pub AnyCalls : Type 0
 AnyCalls = (ws : Words) → Passing ws → (calls : List Call) → Demand3 ws calls

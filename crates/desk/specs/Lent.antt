@@ -3,7 +3,7 @@ use Rattle.std.specs.Prelude.{ℕ, ◌≡◌, List, ℤ}
 use Rattle.grid.specs.declared.site.Site.{Site}
 use Rattle.table.specs.Words.{Words}
 use Rattle.record.specs.declared.Candidate.{Candidate}
-use Rattle.refusals.specs.declared.answered.Answered.{Answered}
+use Rattle.refusals.specs.Told.{Answered}
 use Rattle.desk.specs.Calls.{Queried, after_query}
 
 -- what the code hands back, and the two lists

@@ -4,7 +4,7 @@ use Rattle.std.specs.Prelude.{ℕ, ◌<◌, ◌≡◌, true, false, ℤ}
 use Rattle.words.specs.Word.{nat_of}
 use Rattle.grid.specs.declared.site.Site.{Site}
 use Rattle.order.specs.Lists.{Mem, All}
-use Rattle.table.specs.declared.given.Given.TheVariants.{Done}
+use Rattle.table.specs.Given.{Done}
 use Rattle.table.specs.Words.{Words}
 use Rattle.table.specs.Stations.{Station, stations}
 use Rattle.limits.specs.Limits.{no_such_number, off_grid}

@@ -2,8 +2,7 @@
 use Rattle.std.specs.Prelude.{ℕ, ◌≡◌, List, ℤ}
 use Rattle.grid.specs.declared.site.Site.{Site}
 use Rattle.record.specs.declared.Candidate.{Candidate}
-use Rattle.table.specs.declared.given.Given.{Given}
-use Rattle.table.specs.Given.{number_given}
+use Rattle.table.specs.Given.{Given, number_given}
 use Rattle.table.specs.Words.{Words}
 use Rattle.audit.specs.Check.{check_gives}
 use Rattle.refusals.specs.Refusals.{enrol_gives, withdraw_gives}

@@ -1,13 +1,12 @@
 -- How sharp the promises are: any two outcomes that the promise of a call permits are equal.
 use Rattle.std.specs.Prelude.{ℕ, ◌≡◌, List, ℤ}
 use Rattle.grid.specs.declared.site.Site.{Site}
-use Rattle.table.specs.declared.given.Given.{Given}
+use Rattle.table.specs.Given.{Given}
 use Rattle.table.specs.Words.{Words}
 use Rattle.audit.specs.Check.{check_gives}
 use Rattle.record.specs.declared.Candidate.{Candidate}
 use Rattle.asking.specs.Slate.{Slate}
-use Rattle.refusals.specs.declared.answered.Answered.{Answered}
-use Rattle.refusals.specs.declared.carding.Carded.{Carded}
+use Rattle.refusals.specs.Told.{Carded, Answered}
 use Rattle.refusals.specs.Refusals.{enrol_gives, withdraw_gives}
 use Rattle.desk.specs.Calls.{after_enrol, after_withdraw}
 use Rattle.desk.specs.Lent.{Answers}

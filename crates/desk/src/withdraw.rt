@@ -5,25 +5,23 @@ ghost use Rattle.refusals.specs.Refusals.{withdraw_gives};
 ghost use Rattle.desk.specs.Calls.{after_withdraw};
 
 use audit::check;
+use figures::Words;
 use leaving::withdraw::withdraw_in;
 use refusals::withdrawing::withdraw_given;
-use table::given::Given;
+use table::given::{Given, Refusal};
 use words::border;
 use words::lent::are_words;
 
 // Withdraws from a table that passes the check, without a check.
-pub fn withdraw_passing(table: &mut [i32], number: i32) -> Given
+pub fn withdraw_passing(table: &mut Words, number: i32) -> Given
     requires { Passes table.old }
     ensures given { result ≡ withdraw_gives table.old number }
     ensures words { table.new ≡ after_withdraw table.old number }
 {
     are_words(table);
-    let given = withdraw_given(table, number);
-    let Given::Done = given else {
-        return given;
-    };
+    withdraw_given(table, number)?;
     withdraw_in(table, border::natural(number));
-    given
+    Ok(())
 }
 
 // Withdraws the point with a number.
@@ -31,9 +29,9 @@ pub fn withdraw(table: &mut [i32], number: i32) -> Given
     ensures given { result ≡ withdraw_gives table.old number }
     ensures words { table.new ≡ after_withdraw table.old number }
 {
-    let checked = check(table);
-    let Given::Done = checked else {
-        return checked;
+    check(table)?;
+    let Some(table) = table.as_mut_array() else {
+        return Err(Refusal::WrongLength);
     };
     withdraw_passing(table, number)
 }

@@ -1,7 +1,7 @@
 pub mod Rising
 pub mod Steps
 pub mod Answers
-pub mod Rows
+pub mod RowLaws
 pub mod Visits
 pub mod Taken
 pub mod Turns

@@ -19,7 +19,7 @@ use Rattle.table.specs.Slots.{entries_at}
 use Rattle.table.specs.Stations.{is_point}
 use Rattle.filter.specs.declared.seen.Seen.{Seen}
 use Rattle.filter.specs.Walk.{Found, each, nearest_first, with_opened, visited, entered, walk}
-use Rattle.filter.specs.Rows.{Rows, found_in, Kept, Noted, Ready}
+use Rattle.filter.specs.Rows.{Rows, found_in, Kept, Noted, Ready, Went}
 use Rattle.filter.specs.Passable.{Passable}
 use Rattle.filter.proofs.Taken.{taken_below, taken_at, taken_length}
 use Rattle.filter.proofs.Turns.{Keeps, Turning, turn_kept, turn_ready, turn_done, visit_grows, visit_keeps, entered_grows, entered_keeps, sorted_all}
@@ -74,6 +74,20 @@ leaf_turns q k es first s points r = record {
     opened = r.opened;
   };
 }
+
+-- turn i of them
+pub leaf_turn : {q : Place} {k : ℕ} {es : List Entry} {first : Rows} {s : Seen} → All IsPoint es
+    → Ready q (each (visited q k) (nearest_first q k es)) first s → {row : List ℕ} (i : ℕ) {e : Entry} {r : Rows} {t : Seen}
+    → row ≡ row_of (map (λ e. least_square e.rect q) es) → i < length es → e ≡ get_or es (get_or row i 0) blank_entry
+    → Noted q (each (visited q k) (take i (nearest_first q k es)) (found_in q first s)) first r t
+    → Turn IsPoint q k (visited q k) es (found_in q first s) first i e r t
+leaf_turn {q} {k} {es} {first} {s} points ready i = turn (leaf_turns q k es first s points ready) i
+
+-- after the last
+pub leaf_end : (q : Place) (k : ℕ) (es : List Entry) {first : Rows} (s : Seen) {r : Rows} {t : Seen} (i : ℕ) → length es ≤ i
+    → Noted q (each (visited q k) (take i (nearest_first q k es)) (found_in q first s)) first r t
+    → Went q (each (visited q k) (nearest_first q k es)) first s r t
+leaf_end q k es s i h noted = rw (take_all i (nearest_first q k es) (omega (arith, taken_length es q k))) at noted
 
 -- ---- a node in its slot
 
@@ -135,3 +149,19 @@ module _ (q : Place) (k : ℕ) (ws : Words) (s l : ℕ) (first : Rows) (seen : S
           opened = rw (← walk_above q k ws s l up (found_in q first seen)) ready.opened;
         };
       }
+
+-- turn i of the children
+pub above_turn : {q : Place} {k : ℕ} (ws : Words) (s : ℕ) {l : ℕ} {first : Rows} {seen : Seen} → Ready q (walk q k l ws s) first seen → 0 < l → Passable l ws s
+    → {row : List ℕ} (i : ℕ) {e : Entry} {r : Rows} {t : Seen}
+    → row ≡ row_of (map (λ e. least_square e.rect q) (entries_at ws s)) → i < length (entries_at ws s) → e ≡ get_or (entries_at ws s) (get_or row i 0) blank_entry
+    → Noted q (each (entered q k (walk q k (l - 1) ws)) (take i (nearest_first q k (entries_at ws s))) (with_opened q k (found_in q first seen))) first r t
+    → Turn (IsChild ws (l - 1)) q k (entered q k (walk q k (l - 1) ws)) (entries_at ws s) (with_opened q k (found_in q first seen)) first i e r t
+above_turn {q} {k} ws s {l} {first} {seen} ready up pass i = turn (above_turns q k ws s l first seen ready up pass) i
+
+-- after the last
+pub above_end : (q : Place) (k : ℕ) (ws : Words) (s l : ℕ) {first : Rows} (seen : Seen) → 0 < l → {r : Rows} {t : Seen} (i : ℕ) → length (entries_at ws s) ≤ i
+    → Noted q (each (entered q k (walk q k (l - 1) ws)) (take i (nearest_first q k (entries_at ws s))) (with_opened q k (found_in q first seen))) first r t
+    → Went q (walk q k l ws s) first seen r t
+above_end q k ws s l {first} seen up i h noted =
+    rw (walk_above q k ws s l up (found_in q first seen))
+    (rw (take_all i (nearest_first q k (entries_at ws s)) (omega (arith, taken_length (entries_at ws s) q k))) at noted)

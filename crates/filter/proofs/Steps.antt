@@ -25,7 +25,7 @@ use Rattle.table.specs.Tree.{Tree, top_of, entry_of_tree, slots_of, leaves_of, S
 use Rattle.table.proofs.Cover.{cover_mem}
 use Rattle.rules.proofs.Joined.{all_left}
 use Rattle.rules.proofs.Reading.{Point, point, Good, good_child, good_children, entry_reference, stored_child, stored_entries}
-use Rattle.filter.proofs.Rows.{map_same}
+use Rattle.filter.proofs.RowLaws.{map_same}
 use Rattle.filter.specs.Walk.{Found, spot_in, each, nearest_first, point_hidden, box_hidden, with_candidate, with_opened, visited, entered, walk}
 
 -- ---- lists

@@ -22,7 +22,7 @@ use Rattle.filter.specs.declared.seen.Seen.{Seen}
 use Rattle.filter.specs.Walk.{Found, each, nearest_first, point_hidden, box_hidden, with_candidate, with_opened, visited, entered, walk}
 use Rattle.filter.specs.Rows.{Rows, listed, laid_in, found_in, Room, Kept, Noted, Ready}
 use Rattle.filter.specs.Passable.{Passable}
-use Rattle.filter.proofs.Rows.{rows_again, rows_room, rows_kept, listed_back}
+use Rattle.filter.proofs.RowLaws.{rows_again, rows_room, rows_kept, listed_back}
 
 -- ---- what is found only grows
 

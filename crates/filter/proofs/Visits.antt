@@ -13,14 +13,18 @@ use Rattle.grid.specs.AsNear.{as_near_to, corners_as_near}
 use Rattle.order.specs.Lists.{count}
 use Rattle.order.specs.Order.{up_from}
 use Rattle.table.specs.declared.node.Entry.{Entry}
+use Rattle.filter.specs.declared.rows.Rows.{Rows as Lent}
 use Rattle.filter.specs.declared.seen.Seen.{Seen}
 use Rattle.filter.specs.Walk.{Found, spot_in, point_hidden, box_hidden, with_candidate, visited, entered}
-use Rattle.filter.specs.Rows.{Rows, rows, listed, laid_in, found_in, Room, Kept, Noted, Ready}
-use Rattle.filter.proofs.Rows.{row_add, rows_ext, listed_length, listed_count}
+use Rattle.filter.specs.Rows.{Rows, rows, listed, laid_in, found_in, Room, Kept, Noted, Ready, SameLent}
+use Rattle.filter.proofs.RowLaws.{row_add, rows_ext, listed_length, listed_count}
 
 -- nothing new
 pub noted_same : {q : Place} {r : Rows} {s : Seen} → Kept q r s.candidates → Noted q (found_in q r s) r r s
 noted_same {q} {r} {s} k = record { rows = sym k.same; candidates = sym (listed_length q r s.candidates); opened = refl }
+
+pub still_lent : {r s t : Lent} → SameLent r s → SameLent s t → SameLent r t
+still_lent a b = record { numbers = b.numbers ∙ a.numbers; xs = b.xs ∙ a.xs; ys = b.ys ∙ a.ys; bars = b.bars ∙ a.bars }
 
 -- one more
 rows_add : (q : Place) (r : Rows) (m : ℕ) (e : Entry) → Kept q r m → Room (m + 1) r

@@ -7,6 +7,7 @@ use Rattle.order.specs.Lists.{All}
 use Rattle.order.specs.Order.{up_from}
 use Rattle.table.specs.declared.node.Entry.{Entry}
 use Rattle.table.specs.Stations.{is_point}
+use Rattle.filter.specs.declared.rows.Rows.{Rows as Lent}
 use Rattle.filter.specs.declared.seen.Seen.{Seen}
 use Rattle.filter.specs.Walk.{Found, spot_in}
 use Rattle.filter.specs.Query.{laid_over}
@@ -19,6 +20,17 @@ pub record Rows : Type 0 where
 
 abbrev pub rows : List ℕ → List ℕ → List ℕ → List ℕ → Rows
 rows ns xs ys bs = record { numbers = ns; xs = xs; ys = ys; bars = bs }
+
+-- what the code's rows hold
+abbrev pub rows_of : Lent → Rows
+rows_of r = rows r.numbers.now r.xs.now r.ys.now r.bars.now
+
+-- the code's rows are still those that were lent
+pub record SameLent (before after : Lent) : Type 0 where
+  pub numbers : after.numbers.ghost_name ≡ before.numbers.ghost_name
+  pub xs : after.xs.ghost_name ≡ before.xs.ghost_name
+  pub ys : after.ys.ghost_name ≡ before.ys.ghost_name
+  pub bars : after.bars.ghost_name ≡ before.bars.ghost_name
 
 -- candidate i, a point
 abbrev pub entry_in : Place → Rows → ℕ → Entry

@@ -6,6 +6,6 @@
 pub mod candidate;
 pub mod find;
 pub mod nearest;
+pub mod rows;
 pub mod seen;
-pub mod site;
 pub mod walk;

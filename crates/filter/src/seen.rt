@@ -25,8 +25,8 @@ impl Seen {
         ensures { result ≡ record { candidates = self.candidates; opened = self.opened + 1 } }
     {
         Seen {
-            candidates: self.candidates,
             opened: self.opened + 1,
+            ..self
         }
     }
 }

@@ -5,6 +5,7 @@ use mathlib.Core.Path.{◌≡◌, sym, ap, subst, ◌∙◌}
 use mathlib.Core.Bool.{true}
 use mathlib.Core.List.{List, [], ◌∷◌, ◌++◌, map, map-id}
 use lib.ListN.{length, get_or, set, length-map}
+use Rattle.std.specs.Prelude.{Option}
 use Rattle.grid.specs.Place.{RectOnGrid, Upright}
 use Rattle.order.specs.Lists.{count, All}
 use Rattle.order.proofs.Lists.{join_one, all_at, all_then, all_map}
@@ -19,7 +20,6 @@ use Rattle.table.specs.Stations.{is_point}
 use Rattle.table.specs.Tree.{Tree, top_of, entry_of_tree, entries_of_tree, slots_of, leaves_of, Stored}
 use Rattle.rules.proofs.Reading.{point, point_upright, Good, good_child, top_inside, entry_reference, entries_upright, entry_upright, child_at, child_in, stored_child, stored_entries}
 use Rattle.change.specs.Choose.{entry_in, chosen}
-use Rattle.joining.specs.declared.enrol.Up.{Up}
 use Rattle.joining.specs.Enrol.{Grown, settled, inserted}
 use Rattle.joining.specs.Within.{new_of, grew, free_count, MaySettle, MayInsert}
 use Rattle.change.specs.Planted.{Planted}
@@ -191,18 +191,12 @@ module _ {k : ℕ} {ws : Words} {s : ℕ} {e : Entry} (may : MayInsert (suc k) w
   child_insert = rw child_is (child_may may (may_steps may).place)
 
   -- and what came back
-  module _ (us : Words) (up : Up) (below : grew us up ≡ inserted k ws (get_or n.entries i blank_entry).reference e) where
-    below_is : grew us up ≡ inserted k ws (child_of ws s e) e
+  module _ (us : Words) (new : Option Entry) (below : grew us new ≡ inserted k ws (get_or n.entries i blank_entry).reference e) where
+    below_is : grew us new ≡ inserted k ws (child_of ws s e) e
     below_is = below ∙ ap (λ o. inserted k ws o e) child_is
 
-    pub below_long : length us ≡ LENGTH
-    below_long = ap (λ g. length g.words) below_is ∙ (may_steps may).long
-
-    pub below_single : length (new_of up) ≤ 1
-    below_single = omega (arith, ap (λ g. length g.new) below_is, (may_steps may).single)
-
     module _ {tight : Entry} (read : tight ≡ entry_for us (get_or n.entries i blank_entry).reference) {r m : Node}
-        (put : Shows r (page n.level (set (held n) i tight))) (more : Shows m (page r.level (held r ++ new_of up))) where
+        (put : Shows r (page n.level (set (held n) i tight))) (more : Shows m (page r.level (held r ++ new_of new))) where
       above_took : Shows m (page (suc k) (set (entries_at ws s) (chosen e.rect (entries_at ws s)) (entry_for (inserted k ws (child_of ws s e) e).words (child_of ws s e)) ++ (inserted k ws (child_of ws s e) e).new))
       above_took =
           let es = entries_at ws s in
@@ -210,8 +204,8 @@ module _ {k : ℕ} {ws : Words} {s : ℕ} {e : Entry} (may : MayInsert (suc k) w
           let place : i ≡ chosen e.rect es = picked ∙ ap (chosen e.rect) shown.entries in
           let words : us ≡ g.words = ap (λ x. x.words) below_is in
           let box : tight ≡ entry_for g.words (child_of ws s e) = read ∙ ap (entry_for us) child_is ∙ ap (λ vs. entry_for vs (child_of ws s e)) words in
-          let same : held r ++ new_of up ≡ set es (chosen e.rect es) (entry_for g.words (child_of ws s e)) ++ g.new =
-          ap (λ fs. fs ++ new_of up) (put.entries ∙ ap (λ fs. set fs i tight) shown.entries ∙ ap (λ j. set es j tight) place ∙ ap (set es (chosen e.rect es)) box)
+          let same : held r ++ new_of new ≡ set es (chosen e.rect es) (entry_for g.words (child_of ws s e)) ++ g.new =
+          ap (λ fs. fs ++ new_of new) (put.entries ∙ ap (λ fs. set fs i tight) shown.entries ∙ ap (λ j. set es j tight) place ∙ ap (set es (chosen e.rect es)) box)
           ∙ ap (λ fs. set es (chosen e.rect es) (entry_for g.words (child_of ws s e)) ++ fs) (ap (λ x. x.new) below_is) in
           record {
             level = more.level ∙ put.level ∙ shown.level ∙ level_is may.planted;

@@ -9,6 +9,7 @@ use lib.Dec.{eqb}
 use lib.IntN.{pos}
 use lib.ListN.{length}
 use borrow.Author.Tests.{eqb-true}
+use Rattle.std.specs.Prelude.{Option}
 use Rattle.order.specs.Lists.{every, All}
 use Rattle.table.specs.declared.node.Entry.{Entry}
 use Rattle.table.specs.declared.node.Node.{Node}
@@ -24,7 +25,6 @@ use Rattle.order.proofs.Lists.{all_then, all_map, and_left, and_right}
 use Rattle.rules.proofs.Size.{some_leaf}
 use Rattle.rules.proofs.Reading.{Good, good_root, least_some, held_root, held_points, top_inside, stored_level, stored_entry}
 use Rattle.rules.proofs.WellFormed.{Held, well_formed_tree}
-use Rattle.joining.specs.declared.enrol.Up.{Up}
 use Rattle.joining.specs.Enrol.{inserted, rooted, first_enrolled, next_enrolled, enrolled}
 use Rattle.joining.specs.Within.{new_of, grew, free_count, MayInsert, MayRaise, MayGrow, MayEnrol}
 use Rattle.joining.proofs.EnrolFree.{some_free}
@@ -99,8 +99,8 @@ module _ {ws : Words} {e : Entry} (may : MayGrow ws e) where
     grow_insert = rw (level_is, root_is) root_insert
 
     -- and what came back
-    module _ (us : Words) (up : Up) (below : grew us up ≡ inserted k ws s e) where
-      below_is : grew us up ≡ inserted l ws (top_of l t) e
+    module _ (us : Words) (new : Option Entry) (below : grew us new ≡ inserted k ws s e) where
+      below_is : grew us new ≡ inserted l ws (top_of l t) e
       below_is = below ∙ ap (λ i. inserted i ws s e) level_is ∙ ap (λ o. inserted l ws o e) root_is
 
       pub grow_raise : MayRaise us s k
@@ -121,18 +121,18 @@ module _ {ws : Words} {e : Entry} (may : MayGrow ws e) where
             room = rw words (some_free (inserted l ws (top_of l t) e).words room);
           }
 
-      pub grow_new : All EntryFits (new_of up)
+      pub grow_new : All EntryFits (new_of new)
       grow_new =
-          let new : new_of up ≡ map (entry_of_tree l) made.new = ap (λ g. g.new) below_is ∙ made.handed in
-          rw new
+          let same : new_of new ≡ map (entry_of_tree l) made.new = ap (λ g. g.new) below_is ∙ made.handed in
+          rw same
           (all_map EntryFits (entry_of_tree l) made.new
           (all_then (Good LEAST l) (λ c. EntryFits (entry_of_tree l c)) (λ c g. (tree_sits c (omega arith) g).fits) made.new
           (good_new good may.holds.stored may.point made)))
 
-      pub grow_done : (vs : Words) → vs ≡ rooted s k us (new_of up) → vs ≡ next_enrolled ws e
+      pub grow_done : (vs : Words) → vs ≡ rooted s k us (new_of new) → vs ≡ next_enrolled ws e
       grow_done vs h =
           h
-          ∙ ap (λ vs'. rooted s k vs' (new_of up)) (ap (λ g. g.words) below)
+          ∙ ap (λ vs'. rooted s k vs' (new_of new)) (ap (λ g. g.words) below)
           ∙ ap (λ es. rooted s k (inserted k ws s e).words es) (ap (λ g. g.new) below)
           ∙ ap (λ i. rooted s i (inserted i ws s e).words (inserted i ws s e).new) level
           ∙ ap (λ o. rooted o (level_at ws o) (inserted (level_at ws o) ws o e).words (inserted (level_at ws o) ws o e).new) root

@@ -24,7 +24,7 @@ shows_fits s l f e = subst PageFits (sym (shown_page s)) (record { level = l; fe
 module _ {ws : Words} {s : ℕ} {n : Node} (may : MaySettle ws s n) (full : length n.entries ≡ 10) {all : Node}
     (ordered : Shows all (page n.level (lined (held n)))) where
   many : length (held n) ≡ n.count
-  many = held_length n full (omega (arith, may.nine))
+  many = held_length n full
 
   pub ordered_count : all.count ≡ n.count
   ordered_count = ordered.count ∙ lined_length (held n) ∙ many
@@ -41,12 +41,6 @@ module _ {ws : Words} {s : ℕ} {n : Node} (may : MaySettle ws s n) (full : leng
     rest_page =
         let e : drop (n.count / 2) (held all) ≡ drop (length (held n) / 2) (lined (held n)) = rw (ordered.entries, many) in
         record { level = rest.level ∙ ordered.level; count = rest.count ∙ ap length e; entries = rest.entries ∙ e }
-
-    pub kept_few : first.count ≤ FAN
-    kept_few = omega (arith, kept_page.count, first_length (held n), many, may.nine)
-
-    pub rest_few : other.count ≤ FAN
-    rest_few = omega (arith, rest_page.count, other_length (held n), many, may.nine)
 
     pub kept_fits : PageFits (shown first)
     kept_fits =
@@ -77,4 +71,4 @@ module _ (ws : Words) (s : ℕ) (n : Node) where
   pub settled_split : (g : Grown) → length n.entries ≡ 10 → n.count ≤ 9 → FAN < n.count → g ≡ split ws s n.level (held n)
       → g ≡ settled ws s n.level (held n)
   unfolding settled
-  settled_split g full nine h e = rw (lt-leb (length (held n)) FAN (omega (arith, held_length n full (omega arith)))) e
+  settled_split g full nine h e = rw (lt-leb (length (held n)) FAN (omega (arith, held_length n full))) e

@@ -1,5 +1,5 @@
 -- What the inner functions of an enrolment are given to work with, and what an insertion hands up.
-use Rattle.std.specs.Prelude.{ℕ, suc, ◌≤◌, ◌<◌, ◌^◌, ◌≡◌, true, List, [], ◌∷◌, length}
+use Rattle.std.specs.Prelude.{ℕ, suc, ◌≤◌, ◌<◌, ◌^◌, ◌≡◌, true, Option, Some, None, List, [], ◌∷◌, length}
 use Rattle.words.specs.Word.{IsWord}
 use Rattle.grid.specs.Place.{RectOnGrid}
 use Rattle.order.specs.Lists.{count, All}
@@ -12,18 +12,16 @@ use Rattle.table.specs.Slots.{slots, is_free, lowest_free, entry_for}
 use Rattle.table.specs.Stations.{is_point}
 use Rattle.rules.specs.Rules.{well_formed}
 use Rattle.table.specs.Tree.{Tree, Sound, Holds}
-use Rattle.joining.specs.declared.enrol.Up.{Up}
-use Rattle.joining.specs.declared.enrol.Up.TheVariants.{Same, New}
 use Rattle.change.specs.Planted.{Planted}
 use Rattle.joining.specs.Enrol.{Grown}
 
 -- the entry of a new node, if one was made
-abbrev pub new_of : Up → List Entry
-new_of Same = []
-new_of (New e) = e ∷ []
+abbrev pub new_of : Option Entry → List Entry
+new_of None = []
+new_of (Some e) = e ∷ []
 
-abbrev pub grew : Words → Up → Grown
-grew ws up = record { words = ws; new = new_of up }
+abbrev pub grew : Words → Option Entry → Grown
+grew ws new = record { words = ws; new = new_of new }
 
 -- up to nine entries, each of which a slot can hold, on the grid; and a slot is free
 pub record MaySettle (ws : Words) (s : ℕ) (n : Node) : Type 0 where

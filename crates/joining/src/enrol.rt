@@ -1,26 +1,18 @@
 // A granted enrolment: the way down, the node that takes the newcomer, and the splits on the way back up.
-ghost use Rattle.std.specs.Prelude.{◌≡◌, [], ◌∷◌, ◌++◌, ◌<◌, length};
+ghost use Rattle.std.specs.Prelude.{◌≡◌, [], ◌∷◌, ◌++◌, ◌<◌};
 ghost use Rattle.order.specs.Lists.{All};
-ghost use Rattle.figures.specs.Figures.{LENGTH};
 ghost use Rattle.table.specs.Page.{page, held, Shows, EntryFits};
 ghost use Rattle.joining.specs.Enrol.{split as split_of, settled, inserted, rooted, first_enrolled, next_enrolled, enrolled};
 ghost use Rattle.joining.specs.Within.{new_of, grew, MaySettle, MayInsert, MayRaise, MayGrow, MayEnrol};
 
 use change::choose::choose;
 use change::share::lined;
-use figures::Table;
+use figures::{Table, Words};
 use table::node::{Entry, Node};
 use table::slot;
 
-// What an insertion hands up: nothing new, or the entry of a new node.
-#[derive(Clone, Copy)]
-pub enum Up {
-    Same,
-    New(Entry),
-}
-
 // Of nine entries the first four stay; the other five go to the lowest free slot.
-fn split(table: &mut [i32], slot: usize, n: Node) -> Up
+fn split(table: &mut Words, slot: usize, n: Node) -> Option<Entry>
     requires { MaySettle table.old slot n }
     ensures { grew table.new result ≡ split_of table.old slot n.level (held n) }
 {
@@ -31,37 +23,38 @@ fn split(table: &mut [i32], slot: usize, n: Node) -> Up
     let other = all.rest(half);
     slot::put_node_at(table, slot, first);
     slot::put_node_at(table, to, other);
-    Up::New(Entry {
+    Some(Entry {
         reference: to,
         rect: other.cover(),
     })
 }
 
 // Up to eight entries stay together.
-fn settle(table: &mut [i32], slot: usize, n: Node) -> Up
+fn settle(table: &mut Words, slot: usize, n: Node) -> Option<Entry>
     requires { MaySettle table.old slot n }
     ensures { grew table.new result ≡ settled table.old slot n.level (held n) }
 {
     if n.count <= Table::FAN {
         slot::put_node_at(table, slot, n);
-        return Up::Same;
+        return None;
     }
     split(table, slot, n)
 }
 
 // The new node's entry, if there is one, goes last.
-fn with_new(n: Node, up: Up) -> Node
+fn with_new(n: Node, new: Option<Entry>) -> Node
     requires { n.count < 10 }
-    ensures { Shows result (page n.level (held n ++ new_of up)) }
+    ensures { Shows result (page n.level (held n ++ new_of new)) }
 {
-    match up {
-        Up::Same => n,
-        Up::New(e) => n.appended(e),
+    match new {
+        None => n,
+        Some(e) => n.appended(e),
     }
 }
 
 // Into the node in a slot, of a level. In a leaf the newcomer goes last; above, it goes into the child that is chosen.
-fn insert(table: &mut [i32], slot: usize, level: usize, e: Entry) -> Up
+// Handed up is the entry of a new node, if one was made.
+fn insert(table: &mut Words, slot: usize, level: usize, e: Entry) -> Option<Entry>
     requires { MayInsert level table.old slot e }
     ensures { grew table.new result ≡ inserted level table.old slot e }
 {
@@ -73,13 +66,13 @@ fn insert(table: &mut [i32], slot: usize, level: usize, e: Entry) -> Up
     let i = choose(n, e.rect);
     let taker = n.entries[i];
     let child = taker.reference;
-    let up = insert(table, child, level - 1, e);
+    let new = insert(table, child, level - 1, e);
     let tight = slot::entry_for(table, child);
-    settle(table, slot, with_new(n.replaced(i, tight), up))
+    settle(table, slot, with_new(n.replaced(i, tight), new))
 }
 
 // A new root takes the lowest slot then free, with the old node first and the new one's entry last.
-fn put_above(table: &mut [i32], slot: usize, level: usize, e: Entry)
+fn put_above(table: &mut Words, slot: usize, level: usize, e: Entry)
     requires { MayRaise table.old slot level × EntryFits e }
     ensures { table.new ≡ rooted slot level table.old (e ∷ []) }
 {
@@ -91,19 +84,18 @@ fn put_above(table: &mut [i32], slot: usize, level: usize, e: Entry)
 }
 
 // If the root has split, there is a new one above it.
-fn raise(table: &mut [i32], slot: usize, level: usize, up: Up)
-    requires { MayRaise table.old slot level × All EntryFits (new_of up) }
-    ensures { table.new ≡ rooted slot level table.old (new_of up) }
+fn raise(table: &mut Words, slot: usize, level: usize, new: Option<Entry>)
+    requires { MayRaise table.old slot level × All EntryFits (new_of new) }
+    ensures { table.new ≡ rooted slot level table.old (new_of new) }
 {
-    match up {
-        Up::Same => {}
-        Up::New(e) => put_above(table, slot, level, e),
+    if let Some(e) = new {
+        put_above(table, slot, level, e);
     }
 }
 
 // On the empty table slot 0 becomes a root leaf with the one entry.
-fn put_first(table: &mut [i32], e: Entry)
-    requires { (length table.old ≡ LENGTH) × EntryFits e }
+fn put_first(table: &mut Words, e: Entry)
+    requires { EntryFits e }
     ensures { table.new ≡ first_enrolled table.old e }
 {
     let n = Node::empty(0).appended(e);
@@ -112,18 +104,18 @@ fn put_first(table: &mut [i32], e: Entry)
 }
 
 // Otherwise the way starts at the root.
-fn put_next(table: &mut [i32], e: Entry)
+fn put_next(table: &mut Words, e: Entry)
     requires { MayGrow table.old e }
     ensures { table.new ≡ next_enrolled table.old e }
 {
     let slot = slot::root_of(table);
     let level = slot::level_at(table, slot);
-    let up = insert(table, slot, level, e);
-    raise(table, slot, level, up);
+    let new = insert(table, slot, level, e);
+    raise(table, slot, level, new);
 }
 
 // A granted enrolment.
-pub fn enrol_in(table: &mut [i32], e: Entry)
+pub fn enrol_in(table: &mut Words, e: Entry)
     requires { MayEnrol table.old e }
     ensures { table.new ≡ enrolled table.old e }
 {

@@ -7,7 +7,7 @@ ghost use Rattle.order.specs.Lists.{one, count};
 ghost use Rattle.order.specs.Order.{up_from};
 ghost use Rattle.leads.specs.Leads.{reaches_bar, end_for, place_in, Standing};
 
-use crate::row::{UP, from_q};
+use crate::row::{Leads, UP, from_q};
 use grid::place::Place;
 use grid::rect::Rect;
 
@@ -41,38 +41,36 @@ fn worst_end(x: u64, low: u64, wide: u64) -> u64
     low + (wide & (WIDEST + x / UP))
 }
 
-// How many of the first m candidates are as near to p as q is, or nearer. It counts them all: to stop at k costs a branch in each turn.
-pub fn as_near(xs: &[u64], ys: &[u64], bars: &[u64], m: usize, p: Place, q: Place) -> usize
-    requires { Standing q xs.now ys.now bars.now m × PlaceOnGrid p × PlaceOnGrid q }
-    ensures { result ≡ count (λ i. as_near_to p (place_in q xs.now ys.now i) q) (up_from 0 m) }
-{
-    let px = 2 * from_q(p.x, q.x);
-    let py = 2 * from_q(p.y, q.y);
-    let mut n = 0;
-    let mut i = 0;
-    while i < m {
-        n += reaches(xs[i], ys[i], bars[i], px, py);
-        i += 1;
+impl Leads<'_> {
+    // How many of the first m candidates are as near to p as q is, or nearer. It counts them all: to stop at k costs a branch in each turn.
+    pub fn as_near(self, m: usize, p: Place, q: Place) -> usize
+        requires { Standing q self.xs.now self.ys.now self.bars.now m × PlaceOnGrid p × PlaceOnGrid q }
+        ensures { result ≡ count (λ i. as_near_to p (place_in q self.entry.xs.now self.entry.ys.now i) q) (up_from 0 m) }
+    {
+        let px = 2 * from_q(p.x, q.x);
+        let py = 2 * from_q(p.y, q.y);
+        let mut n = 0;
+        for i in 0..m {
+            n += reaches(self.xs[i], self.ys[i], self.bars[i], px, py);
+        }
+        n
     }
-    n
-}
 
-// For how many of them all four corners of the box are as near to that candidate as to q, or nearer: at its worst corner all four are tested.
-pub fn all_as_near(xs: &[u64], ys: &[u64], bars: &[u64], m: usize, r: Rect, q: Place) -> usize
-    requires { Standing q xs.now ys.now bars.now m × Upright r × PlaceOnGrid q }
-    ensures { result ≡ count (λ i. corners_as_near r (place_in q xs.now ys.now i) q) (up_from 0 m) }
-{
-    let low_x = 2 * from_q(r.x.low, q.x);
-    let low_y = 2 * from_q(r.y.low, q.y);
-    let wide_x = 2 * (r.x.high - r.x.low);
-    let wide_y = 2 * (r.y.high - r.y.low);
-    let mut n = 0;
-    let mut i = 0;
-    while i < m {
-        let px = worst_end(xs[i], low_x, wide_x);
-        let py = worst_end(ys[i], low_y, wide_y);
-        n += reaches(xs[i], ys[i], bars[i], px, py);
-        i += 1;
+    // For how many of them all four corners of the box are as near to that candidate as to q, or nearer: at its worst corner all four are tested.
+    pub fn all_as_near(self, m: usize, r: Rect, q: Place) -> usize
+        requires { Standing q self.xs.now self.ys.now self.bars.now m × Upright r × PlaceOnGrid q }
+        ensures { result ≡ count (λ i. corners_as_near r (place_in q self.entry.xs.now self.entry.ys.now i) q) (up_from 0 m) }
+    {
+        let low_x = 2 * from_q(r.x.low, q.x);
+        let low_y = 2 * from_q(r.y.low, q.y);
+        let wide_x = 2 * (r.x.high - r.x.low);
+        let wide_y = 2 * (r.y.high - r.y.low);
+        let mut n = 0;
+        for i in 0..m {
+            let px = worst_end(self.xs[i], low_x, wide_x);
+            let py = worst_end(self.ys[i], low_y, wide_y);
+            n += reaches(self.xs[i], self.ys[i], self.bars[i], px, py);
+        }
+        n
     }
-    n
 }

@@ -25,14 +25,24 @@ fn back(x: u64, q: u64) -> u64
     x + q - UP
 }
 
-// The place of candidate i.
-pub fn place_at(xs: &[u64], ys: &[u64], i: usize, q: Place) -> Place
-    requires { (i < length xs.now) × (i < length ys.now) × PlaceOnGrid q × PlaceOnGrid (place_in q xs.now ys.now i) }
-    ensures { result ≡ place_in q xs.now ys.now i }
-{
-    Place {
-        x: back(xs[i], q.x),
-        y: back(ys[i], q.y),
+// A query's candidates, relative to its place: the x and the y of each, and its bar.
+#[derive(Clone, Copy)]
+pub struct Leads<'a> {
+    pub xs: &'a [u64],
+    pub ys: &'a [u64],
+    pub bars: &'a [u64],
+}
+
+impl Leads<'_> {
+    // The place of candidate i.
+    pub fn place_at(self, i: usize, q: Place) -> Place
+        requires { (i < length self.xs.now) × (i < length self.ys.now) × PlaceOnGrid q × PlaceOnGrid (place_in q self.xs.now self.ys.now i) }
+        ensures { result ≡ place_in q self.entry.xs.now self.entry.ys.now i }
+    {
+        Place {
+            x: back(self.xs[i], q.x),
+            y: back(self.ys[i], q.y),
+        }
     }
 }
 

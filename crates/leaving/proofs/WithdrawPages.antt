@@ -125,9 +125,6 @@ module _ (ws : Words) (s : ℕ) (p : Page) (a : ℕ) (j : Joinable ws s p a) whe
     abbrev merged_now : Words
     merged_now = freed put_one (entry_in es (a + 1)).reference
 
-    pub merged_long : length merged_now ≡ LENGTH
-    merged_long = freed_long put_one (entry_in es (a + 1)).reference put_one_long next_child.inside ∙ put_one_long
-
     merged_read : entries_at merged_now (entry_in es a).reference ≡ joint_at ws es a
     merged_read =
         ap (λ q. q.entries)
@@ -173,10 +170,6 @@ module _ (ws : Words) (s : ℕ) (p : Page) (a : ℕ) (j : Joinable ws s p a) whe
   abbrev shared_now : Words
   shared_now = put_page put_low (entry_in es (a + 1)).reference high_page
 
-  pub shared_long : length shared_now ≡ LENGTH
-  shared_long =
-      put_long put_low (entry_in es (a + 1)).reference high_page put_low_long next_child.inside high_page_fits.few ∙ put_low_long
-
   low_read : entries_at shared_now (entry_in es a).reference ≡ first_share (joint_at ws es a)
   low_read =
       ap (λ q. q.entries)
@@ -213,12 +206,12 @@ module _ (ws : Words) (s : ℕ) (p : Page) (a : ℕ) (j : Joinable ws s p a) whe
 pub few_count : (n : Node) → length n.entries ≡ 10 → length (held n) ≤ FAN → n.count ≡ length (held n)
 few_count n f h = omega (arith, length-take n.count n.entries)
 
-pub pair_room : (ws : Words) (s : ℕ) (n : Node) (a : ℕ) → length n.entries ≡ 10 → Joinable ws s (shown n) a → (a + 1 < n.count) × (n.count ≤ FAN)
-pair_room ws s n a f j = omega (arith, few_count n f j.mendable.fits.few, j.next, j.mendable.fits.few)
+pub pair_room : (ws : Words) (s : ℕ) (n : Node) (a : ℕ) → length n.entries ≡ 10 → Joinable ws s (shown n) a → a + 1 < n.count
+pair_room ws s n a f j = omega (arith, few_count n f j.mendable.fits.few, j.next)
 
 -- a page that fits is what a node writes that shows it
-pub shown_fits : {n : Node} {p : Page} → Shows n p → PageFits p → (n.count ≤ FAN) × PageFits (shown n)
-shown_fits {n} {p} s f = (omega (arith, s.count, f.few), subst PageFits (sym (shown_page s)) f)
+pub shown_fits : {n : Node} {p : Page} → Shows n p → PageFits p → PageFits (shown n)
+shown_fits {n} {p} s f = subst PageFits (sym (shown_page s)) f
 
 module _ (ws : Words) (s : ℕ) (n : Node) (a : ℕ) (joint : Node) (j : Joinable ws s (shown n) a)
     (sh : Shows joint (page (n.level - 1) (joint_at ws (held n) a))) (le : joint.count ≤ FAN) where
@@ -309,11 +302,10 @@ module _ (ws : Words) (s : ℕ) (n : Node) (a : ℕ) (joint : Node) (j : Joinabl
         pub share_half : Shows m (page n.level (half_tight ws s (shown n) a j))
         share_half = subst (λ x. Shows m (page n.level (tight_at x (held n) a))) share_now em
 
-        pub half_room : (a + 1 < m.count) × (m.count ≤ 10) × ((entry_in (held m) (a + 1)).reference < SLOTS)
+        pub half_room : (a + 1 < m.count) × ((entry_in (held m) (a + 1)).reference < SLOTS)
         half_room =
             let k = tight_length (shared_now ws s (shown n) a j) (held n) a in (
               omega (arith, k, share_half.count, j.next),
-              omega (arith, k, share_half.count, j.mendable.fits.few),
               subst (λ es. (entry_in es (a + 1)).reference < SLOTS) (sym share_half.entries) (half_inside ws s (shown n) a j),
             )
 
@@ -438,5 +430,5 @@ module _ (n : Node) (i : ℕ) (e : n.count ≡ length (held n)) where
 
 -- a node to be mended has room for its place
 pub mend_room : (ws : Words) (s : ℕ) (n : Node) (i : ℕ) → length n.entries ≡ 10 → Mendable ws s (shown n) i
-    → (i < n.count) × (2 ≤ n.count) × (n.count ≤ FAN)
-mend_room ws s n i f d = omega (arith, few_count n f d.fits.few, d.place, d.two, d.fits.few)
+    → (i < n.count) × (2 ≤ n.count)
+mend_room ws s n i f d = omega (arith, few_count n f d.fits.few, d.place, d.two)

@@ -7,6 +7,8 @@ use mathlib.Core.List.{List, [], ◌∷◌, ◌++◌, map, map-append}
 use lib.Dec.{eqb}
 use lib.ListN.{length, get_or, length-append, length-map}
 use borrow.Author.Tests.{ltb-true}
+use Rattle.std.specs.Prelude.{Option, Some, position}
+use Rattle.std.specs.Option.{IsSome}
 use Rattle.order.specs.Lists.{one, some, first_place, join, Mem, All}
 use Rattle.order.proofs.Lists.{by_bool, count_append, all_mem, mem_all, all_append, all_at, all_then, all_map}
 use Rattle.table.specs.declared.node.Entry.{Entry}
@@ -55,7 +57,8 @@ use Rattle.leaving.proofs.WithdrawCut.{
   filled_two,
 }
 use Rattle.change.proofs.Planting.{planted_good, planted_page}
-use Rattle.leaving.proofs.WithdrawPlanted.{by_pred, planted_ready, first_some, holds_down, planted_down}
+use Rattle.leaving.proofs.WithdrawPlanted.{by_pred, planted_ready, holds_down, planted_down}
+use Rattle.leaving.proofs.WithdrawSearch.{first_some, position_first, position_found}
 use Rattle.leaving.proofs.WithdrawPages.{without_fits, without_length, shown_fits}
 
 -- ---- a child that is stored can be read
@@ -242,18 +245,32 @@ module _ (ws : Words) (s n l : ℕ) (r : Removable l ws s n) (node : Node) (show
   node_level : node.level ≡ l
   node_level = shows.level ∙ ap (λ p. p.level) (planted_page r.planted)
 
-  module _ (z : l ≡ 0) (i : ℕ) (ei : i ≡ first_place (λ e. eqb e.reference n) (held node)) where
-    leaf_place : i ≡ first_place (λ e. eqb e.reference n) (entries_at ws s)
-    leaf_place = ei ∙ ap (first_place (λ e. eqb e.reference n)) shows.entries
+  -- the search in the node finds the place that it finds in the slot
+  found_in : (P : Entry → Bool) → first_place P (entries_at ws s) < length (entries_at ws s) → (o : Option ℕ) → o ≡ position P (held node) → IsSome o
+  found_in P h o e =
+      subst IsSome (sym (e ∙ ap (position P) shows.entries ∙ position_found P (entries_at ws s) h)) refl
 
-    pub leaf_in : (i < node.count) × (node.count ≤ 10)
-    leaf_in = omega (arith, leaf_place, found_leaf ws s n l z r, shows.count, page_few ws s)
+  place_in : (P : Entry → Bool) (o : Option ℕ) → o ≡ position P (held node) → (i : ℕ) → o ≡ Some i → i ≡ first_place P (entries_at ws s)
+  place_in P o e i f = position_first P (entries_at ws s) i (sym (e ∙ ap (position P) shows.entries) ∙ f)
+
+  pub leaf_some : l ≡ 0 → (o : Option ℕ) → o ≡ position (λ e. eqb e.reference n) (held node) → IsSome o
+  leaf_some z = found_in (λ e. eqb e.reference n) (found_leaf ws s n l z r)
+
+  pub child_some : 0 < l → (o : Option ℕ) → o ≡ position (λ e. holds (l - 1) ws e.reference n) (held node) → IsSome o
+  child_some h = found_in (λ e. holds (l - 1) ws e.reference n) (found_child ws s n l h r)
+
+  module _ (z : l ≡ 0) (o : Option ℕ) (eo : o ≡ position (λ e. eqb e.reference n) (held node)) (i : ℕ) (ei : o ≡ Some i) where
+    leaf_place : i ≡ first_place (λ e. eqb e.reference n) (entries_at ws s)
+    leaf_place = place_in (λ e. eqb e.reference n) o eo i ei
+
+    pub leaf_in : i < node.count
+    leaf_in = omega (arith, leaf_place, found_leaf ws s n l z r, shows.count)
 
     module _ (m : Node) (em : Shows m (page node.level (without i (held node)))) where
       leaf_shows : Shows m (page (level_at ws s) (without i (entries_at ws s)))
       leaf_shows = shows_on shows m (without i) em
 
-      pub leaf_fits : (m.count ≤ FAN) × PageFits (shown m)
+      pub leaf_fits : PageFits (shown m)
       leaf_fits =
           shown_fits leaf_shows (leaf_page_fits ws s l i r.planted (omega (arith, leaf_place, found_leaf ws s n l z r)))
 
@@ -262,12 +279,12 @@ module _ (ws : Words) (s n l : ℕ) (r : Removable l ws s n) (node : Node) (show
           e ∙ ap (put_page ws s) (shown_page leaf_shows) ∙ ap (λ k. put_page ws s (page k (without i (entries_at ws s)))) (sym shows.level ∙ node_level ∙ z)
           ∙ ap (λ k. put_page ws s (page zero (without k (entries_at ws s)))) leaf_place ∙ ap (λ k. removed k ws s n) (sym z)
 
-  module _ (h : 0 < l) (i : ℕ) (ei : i ≡ first_place (λ e. holds (l - 1) ws e.reference n) (held node)) where
+  module _ (h : 0 < l) (o : Option ℕ) (eo : o ≡ position (λ e. holds (l - 1) ws e.reference n) (held node)) (i : ℕ) (ei : o ≡ Some i) where
     child_place : i ≡ first_place (λ e. holds (l - 1) ws e.reference n) (entries_at ws s)
-    child_place = ei ∙ ap (first_place (λ e. holds (l - 1) ws e.reference n)) shows.entries
+    child_place = place_in (λ e. holds (l - 1) ws e.reference n) o eo i ei
 
-    pub child_in : (i < node.count) × (node.count ≤ 10)
-    child_in = omega (arith, child_place, found_child ws s n l h r, shows.count, page_few ws s)
+    pub child_in : i < node.count
+    child_in = omega (arith, child_place, found_child ws s n l h r, shows.count)
 
     module _ (c : ℕ) (ec : c ≡ (entry_in (held node) i).reference) where
       child_slot : c ≡ (entry_in (entries_at ws s) (first_place (λ e. holds (l - 1) ws e.reference n) (entries_at ws s))).reference

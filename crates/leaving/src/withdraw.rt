@@ -1,7 +1,7 @@
 // Withdrawal from a well-formed table.
-ghost use Rattle.std.specs.Prelude.{◌≡◌, true, ◌-◌, ◌≤◌, ◌<◌, eqb, length};
-ghost use Rattle.order.specs.Lists.{first_place, All};
-ghost use Rattle.figures.specs.Figures.{FAN, SLOTS, LENGTH};
+ghost use Rattle.std.specs.Prelude.{◌≡◌, ◌-◌, ◌≤◌, ◌<◌, eqb, position};
+ghost use Rattle.order.specs.Lists.{All};
+ghost use Rattle.figures.specs.Figures.{FAN, SLOTS};
 ghost use Rattle.change.specs.Choose.{entry_in};
 ghost use Rattle.table.specs.Page.{page, held, shown, Shows};
 ghost use Rattle.change.specs.Planted.{Planted};
@@ -9,92 +9,46 @@ ghost use Rattle.leaving.specs.Withdraw.{holds as holds_of, tight_at, joint_at, 
 ghost use Rattle.leaving.specs.Withdraw.{Removable, MayShare, Mendable, Joinable, Lowerable, MayWithdraw};
 
 use change::share::lined;
-use figures::Table;
+use figures::{Table, Words};
 use table::node::Node;
 use table::slot;
 
-// The place of a point number in a leaf; the leaf's count if it is not there.
-fn leaf_place(n: Node, number: usize) -> usize
-    requires { n.count ≤ 10 }
-    ensures { result ≡ first_place (λ e. eqb e.reference number) (held n) }
+// The place of a point number in a leaf, if it is there.
+fn leaf_place(n: Node, number: usize) -> Option<usize>
+    ensures { result ≡ position (λ e. eqb e.reference number) (held n) }
 {
-    let count = n.count;
-    let mut i = 0;
-    while i < count {
-        let e = n.entries[i];
-        if e.reference == number {
-            return i;
-        }
-        i += 1;
-    }
-    i
+    n.held().iter().position(|e| e.reference == number)
 }
 
-// The place of the child, of this level, below which a point number stands; the node's count if there is none.
+// The place of the child, of this level, below which a point number stands, if there is one.
 #[cycle(child_place_holds)]
-fn child_place(table: &[i32], level: usize, n: Node, number: usize) -> usize
-    requires { (n.count ≤ 10) × All (λ e. Planted level table.now e.reference) (held n) }
-    ensures { result ≡ first_place (λ e. holds_of level table.now e.reference number) (held n) }
+fn child_place(table: &Words, level: usize, n: Node, number: usize) -> Option<usize>
+    requires { All (λ e. Planted level table.now e.reference) (held n) }
+    ensures { result ≡ position (λ e. holds_of level table.now e.reference number) (held n) }
 {
-    let count = n.count;
-    let mut i = 0;
-    while i < count {
-        let e = n.entries[i];
+    for (i, e) in n.held().iter().enumerate() {
         if holds(table, level, e.reference, number) {
-            return i;
+            return Some(i);
         }
-        i += 1;
     }
-    i
+    None
 }
 
 // Whether a point number stands below a slot of this level.
 #[cycle(child_place_holds)]
-fn holds(table: &[i32], level: usize, slot: usize, number: usize) -> bool
+fn holds(table: &Words, level: usize, slot: usize, number: usize) -> bool
     requires { Planted level table.now slot }
     ensures { result ≡ holds_of level table.now slot number }
 {
     let n = slot::node_at(table, slot);
-    let count = n.count;
     if level == 0 {
-        return leaf_place(n, number) < count;
+        return leaf_place(n, number).is_some();
     }
-    child_place(table, level - 1, n, number) < count
-}
-
-// The slot of the child at a place.
-fn child_at(n: Node, i: usize) -> usize
-    requires { (i < n.count) × (n.count ≤ 10) }
-    ensures { result ≡ (entry_in (held n) i).reference }
-{
-    let e = n.entries[i];
-    e.reference
-}
-
-// The box of the entry at a place is made tight.
-fn tightened(table: &[i32], n: Node, i: usize) -> Node
-    requires { (length table.now ≡ LENGTH) × (i < n.count) × (n.count ≤ 10) × ((entry_in (held n) i).reference < SLOTS) }
-    ensures { Shows result (page n.level (tight_at table.now (held n) i)) }
-{
-    let tight = slot::entry_for(table, child_at(n, i));
-    n.replaced(i, tight)
-}
-
-// Up to eight entries go to the lower-placed of the children at places a and a + 1; the other slot becomes free.
-fn merge(table: &mut [i32], slot: usize, n: Node, a: usize, joint: Node)
-    requires { Joinable table.old slot (shown n) a × Shows joint (page (n.level - 1) (joint_at table.old (held n) a)) × (joint.count ≤ FAN) }
-    ensures { table.new ≡ merged table.old slot (n.level - 1) (held n) a (joint_at table.old (held n) a) }
-{
-    let c = child_at(n, a);
-    let d = child_at(n, a + 1);
-    slot::put_node_at(table, c, joint);
-    slot::free_slot(table, d);
-    let m = tightened(table, n, a);
-    slot::put_node_at(table, slot, m.without(a + 1));
+    child_place(table, level - 1, n, number).is_some()
 }
 
 // A node's entries in order go to two slots: the first share to c, the rest to d.
-fn share_out(table: &mut [i32], c: usize, d: usize, joint: Node)
+fn share_out(table: &mut Words, c: usize, d: usize, joint: Node)
     requires { MayShare table.old c d joint }
     ensures { table.new ≡ shared_out table.old c d joint.level (held joint) }
 {
@@ -104,75 +58,119 @@ fn share_out(table: &mut [i32], c: usize, d: usize, joint: Node)
     slot::put_node_at(table, d, all.rest(half));
 }
 
-// Nine or ten entries of the children at places a and a + 1 are shared, the first share to the lower-placed of them.
-fn share(table: &mut [i32], slot: usize, n: Node, a: usize, joint: Node)
-    requires { Joinable table.old slot (shown n) a × Shows joint (page (n.level - 1) (joint_at table.old (held n) a)) }
-    ensures { table.new ≡ shared table.old slot (n.level - 1) (held n) a (joint_at table.old (held n) a) }
-{
-    share_out(table, child_at(n, a), child_at(n, a + 1), joint);
-    let m = tightened(table, n, a);
-    let o = tightened(table, m, a + 1);
-    slot::put_node_at(table, slot, o);
+// A node above the leaves, and the slot that it stands in.
+#[derive(Clone, Copy)]
+struct Parent {
+    slot: usize,
+    node: Node,
 }
 
-// The children at places a and a + 1 join: the lower-placed node's entries, then the other's.
-fn join_children(table: &mut [i32], slot: usize, n: Node, a: usize)
-    requires { Joinable table.old slot (shown n) a }
-    ensures { table.new ≡ joined table.old slot (n.level - 1) (held n) a }
-{
-    let first = slot::node_at(table, child_at(n, a));
-    let other = slot::node_at(table, child_at(n, a + 1));
-    let joint = first.joined(other);
-    if joint.count <= Table::FAN {
-        merge(table, slot, n, a, joint);
-        return;
+impl Parent {
+    // The slot of the child at a place.
+    fn child_at(self, i: usize) -> usize
+        requires { i < self.node.count }
+        ensures { result ≡ (entry_in (held self.node) i).reference }
+    {
+        self.node.entries[i].reference
     }
-    share(table, slot, n, a, joint);
-}
 
-// The lower place of a child and its next sibling by place, or its previous one if it is last.
-fn lower_place(n: Node, i: usize) -> usize
-    requires { (i < n.count) × (2 ≤ n.count) × (n.count ≤ 10) }
-    ensures { result ≡ lower_place (held n) i }
-{
-    if i + 1 < n.count {
-        return i;
+    // The box of the entry at a place is made tight.
+    fn tightened(self, table: &Words, i: usize) -> Parent
+        requires { (i < self.node.count) × ((entry_in (held self.node) i).reference < SLOTS) }
+        ensures slot { result.slot ≡ self.slot }
+        ensures node { Shows result.node (page self.node.level (tight_at table.now (held self.node) i)) }
+    {
+        let tight = slot::entry_for(table, self.child_at(i));
+        Parent {
+            slot: self.slot,
+            node: self.node.replaced(i, tight),
+        }
     }
-    i - 1
-}
 
-// After a withdrawal below the entry at place i: a child that has fallen to two joins a sibling, else its box is made tight.
-fn mend(table: &mut [i32], slot: usize, n: Node, i: usize)
-    requires { Mendable table.old slot (shown n) i }
-    ensures { table.new ≡ mended table.old slot (n.level - 1) (held n) i }
-{
-    let child = slot::node_at(table, child_at(n, i));
-    if child.count < Table::LEAST {
-        join_children(table, slot, n, lower_place(n, i));
-        return;
+    // Up to eight entries go to the lower-placed of the children at places a and a + 1; the other slot becomes free.
+    fn merge(self, table: &mut Words, a: usize, joint: Node)
+        requires { Joinable table.old self.slot (shown self.node) a × Shows joint (page (self.node.level - 1) (joint_at table.old (held self.node) a)) × (joint.count ≤ FAN) }
+        ensures { table.new ≡ merged table.old self.slot (self.node.level - 1) (held self.node) a (joint_at table.old (held self.node) a) }
+    {
+        let c = self.child_at(a);
+        let d = self.child_at(a + 1);
+        slot::put_node_at(table, c, joint);
+        slot::free_slot(table, d);
+        let m = self.tightened(table, a);
+        slot::put_node_at(table, self.slot, m.node.without(a + 1));
     }
-    let m = tightened(table, n, i);
-    slot::put_node_at(table, slot, m);
+
+    // Nine or ten entries of the children at places a and a + 1 are shared, the first share to the lower-placed of them.
+    fn share(self, table: &mut Words, a: usize, joint: Node)
+        requires { Joinable table.old self.slot (shown self.node) a × Shows joint (page (self.node.level - 1) (joint_at table.old (held self.node) a)) }
+        ensures { table.new ≡ shared table.old self.slot (self.node.level - 1) (held self.node) a (joint_at table.old (held self.node) a) }
+    {
+        share_out(table, self.child_at(a), self.child_at(a + 1), joint);
+        let m = self.tightened(table, a);
+        let o = m.tightened(table, a + 1);
+        slot::put_node_at(table, self.slot, o.node);
+    }
+
+    // The children at places a and a + 1 join: the lower-placed node's entries, then the other's.
+    fn join_children(self, table: &mut Words, a: usize)
+        requires { Joinable table.old self.slot (shown self.node) a }
+        ensures { table.new ≡ joined table.old self.slot (self.node.level - 1) (held self.node) a }
+    {
+        let first = slot::node_at(table, self.child_at(a));
+        let other = slot::node_at(table, self.child_at(a + 1));
+        let joint = first.joined(other);
+        if joint.count <= Table::FAN {
+            self.merge(table, a, joint);
+            return;
+        }
+        self.share(table, a, joint);
+    }
+
+    // The lower place of a child and its next sibling by place, or its previous one if it is last.
+    fn lower_place(self, i: usize) -> usize
+        requires { (i < self.node.count) × (2 ≤ self.node.count) }
+        ensures { result ≡ lower_place (held self.node) i }
+    {
+        if i + 1 < self.node.count {
+            return i;
+        }
+        i - 1
+    }
+
+    // After a withdrawal below the entry at place i: a child that has fallen to two joins a sibling, else its box is made tight.
+    fn mend(self, table: &mut Words, i: usize)
+        requires { Mendable table.old self.slot (shown self.node) i }
+        ensures { table.new ≡ mended table.old self.slot (self.node.level - 1) (held self.node) i }
+    {
+        let child = slot::node_at(table, self.child_at(i));
+        if child.count < Table::LEAST {
+            self.join_children(table, self.lower_place(i));
+            return;
+        }
+        let m = self.tightened(table, i);
+        slot::put_node_at(table, self.slot, m.node);
+    }
 }
 
 // Takes a point number out of the tree below a slot of this level.
-fn remove(table: &mut [i32], level: usize, slot: usize, number: usize)
+fn remove(table: &mut Words, level: usize, slot: usize, number: usize)
     requires { Removable level table.old slot number }
     ensures { table.new ≡ removed level table.old slot number }
 {
     let n = slot::node_at(table, slot);
     if level == 0 {
-        let m = n.without(leaf_place(n, number));
-        slot::put_node_at(table, slot, m);
+        let i = leaf_place(n, number).unwrap();
+        slot::put_node_at(table, slot, n.without(i));
         return;
     }
-    let i = child_place(table, level - 1, n, number);
-    remove(table, level - 1, child_at(n, i), number);
-    mend(table, slot, n, i);
+    let i = child_place(table, level - 1, n, number).unwrap();
+    let parent = Parent { slot, node: n };
+    remove(table, level - 1, parent.child_at(i), number);
+    parent.mend(table, i);
 }
 
 // The last point leaves no root; a root above the leaves with one child gives way to it.
-fn lower_root(table: &mut [i32], root: usize)
+fn lower_root(table: &mut Words, root: usize)
     requires { Lowerable table.old root }
     ensures { table.new ≡ lowered table.old root }
 {
@@ -189,11 +187,11 @@ fn lower_root(table: &mut [i32], root: usize)
         return;
     }
     slot::free_slot(table, root);
-    slot::put_root(table, child_at(n, 0));
+    slot::put_root(table, n.entries[0].reference);
 }
 
 // A granted withdrawal.
-pub fn withdraw_in(table: &mut [i32], number: usize)
+pub fn withdraw_in(table: &mut Words, number: usize)
     requires { MayWithdraw table.old number }
     ensures { table.new ≡ withdrawn table.old number }
 {

@@ -9,7 +9,7 @@ use Rattle.order.specs.Order.{up_from}
 use Rattle.order.proofs.Order.{up_length}
 use Rattle.rules.proofs.Counted.{up_append}
 use Rattle.filter.specs.Query.{laid_over}
-use Rattle.filter.proofs.Rows.{laid_set}
+use Rattle.filter.proofs.RowLaws.{laid_set}
 use Rattle.record.specs.declared.Candidate.{Candidate}
 use Rattle.listing.specs.Records.{candidate_in, candidates_in, Readable}
 

@@ -11,7 +11,7 @@ use Rattle.table.specs.Words.{Words, points_of}
 use Rattle.rules.specs.Rules.{Passing}
 use Rattle.filter.specs.Query.{found, record_of, records_found, laid_over}
 use Rattle.filter.specs.Rows.{entry_in, listed, laid_in, Kept}
-use Rattle.filter.proofs.Rows.{kept_standing}
+use Rattle.filter.proofs.RowLaws.{kept_standing}
 use Rattle.record.specs.declared.Candidate.{Candidate}
 use Rattle.asking.specs.declared.answer.Reply.{Reply}
 use Rattle.asking.specs.Slate.{Slate, Wide, slate_after}

@@ -36,14 +36,14 @@ use Rattle.filter.specs.Meaning.{is_other}
 use Rattle.filter.specs.Walk.{spot_in}
 use Rattle.filter.specs.Query.{laid_over}
 use Rattle.filter.proofs.Rising.{filter_map}
-use Rattle.filter.proofs.Rows.{laid_set}
+use Rattle.filter.proofs.RowLaws.{laid_set}
 use Rattle.filter.proofs.Answers.{point_site, stations_empty}
 use Rattle.vetting.specs.Test.{below}
 use Rattle.vetting.proofs.Below.{root_count}
 use Rattle.vetting.proofs.Testing.{all_points}
 use Rattle.card.specs.Card.{in_card_order, card_of, names_of, names_of_first, names_for}
 use Rattle.card.proofs.Lines.{order_perm, in_line}
-use Rattle.naming.specs.declared.find.Whereabouts.TheVariants.{At}
+use Rattle.std.specs.Prelude.{Some}
 use Rattle.naming.specs.Holders.{BASE, mark_of, number_in, mark_from, is_another, marks_of}
 use Rattle.naming.specs.Named.{where_in, where_of, Named}
 
@@ -112,6 +112,13 @@ module _ (all : List Station) (p : Station) where
         ∙ ap (map number_in) (map_take mark_as k (in_card_order all p) ∙ ap (take k) order_marks)
 
 -- ---- the best, and how many of them are holders
+
+module _ (best : List ℕ) {n : ℕ} (many : n ≡ count (λ m. ltb m NONE) best) where
+  pub holders_few : n ≤ length best
+  holders_few = omega (arith, many, count_most (λ m. ltb m NONE) best)
+
+  pub holders_length : length (take n best) ≡ n
+  holders_length = length-take-le n best holders_few
 
 -- below NONE is at most one less
 count_below : (v : ℕ) (ns : List ℕ) → count (λ n. ltb n (suc v)) ns ≡ low v ns
@@ -184,12 +191,12 @@ pub record Found (number : ℕ) (p : Place) (es : List Entry) : Type 0 where
   pub first : filter (λ e. eqb e.reference number) es ≡ station ∷ rest
   pub place : spot_in station ≡ p
 
-pub found_at : (number : ℕ) (p : Place) (es : List Entry) → where_in number es ≡ At p → Found number p es
+pub found_at : (number : ℕ) (p : Place) (es : List Entry) → where_in number es ≡ Some p → Found number p es
 found_at number p [] e = let z : ◌≡◌ {A = ℕ} 0 1 = cc in absurd (omega arith)
 found_at number p (x ∷ xs) e =
-    let ih : where_in number xs ≡ At p → Found number p xs = found_at number p xs in
+    let ih : where_in number xs ≡ Some p → Found number p xs = found_at number p xs in
     let P : Entry → Bool = λ e. eqb e.reference number in
-    by_bool (λ b. P x ≡ b → cond b (At (spot_in x)) (where_in number xs) ≡ At p → Found number p (x ∷ xs)) (P x)
+    by_bool (λ b. P x ≡ b → cond b (Some (spot_in x)) (where_in number xs) ≡ Some p → Found number p (x ∷ xs)) (P x)
     (λ t u f. record { station = x; rest = filter P xs; first = rw u; place = cc })
     (λ t u f. let r = ih f in record { station = r.station; rest = r.rest; first = rw u r.first; place = r.place })
     refl e
@@ -199,11 +206,11 @@ count_marked : {A B : Type 0} (R : B → Bool) (f : A → B) (Q : A → Bool) (x
 count_marked R f Q xs = count_map R f (filter Q xs) ∙ count_filter (λ x. R (f x)) Q xs
 
 -- on a table that passes the check, the station with the number stands at p
-module _ (ws : Words) (pass : Passing ws) (number : ℕ) (p : Place) (there : where_of ws number ≡ At p) where
+module _ (ws : Words) (pass : Passing ws) (number : ℕ) (p : Place) (there : where_of ws number ≡ Some p) where
   abbrev leaves : List Entry
   leaves = join (leaf_entries ws) slots
 
-  stands : where_in number leaves ≡ At p
+  stands : where_in number leaves ≡ Some p
   unfolding where_of
   stands = there
 
@@ -310,12 +317,9 @@ module _ (ws : Words) (pass : Passing ws) (number : ℕ) (p : Place) (there : wh
 
   -- so many names, at the front of the list if it has room for them
   module _ (k level root : ℕ) (is_root : root ≡ root_of ws) (isLevel : level ≡ level_at ws root) (best : List ℕ) (is : best ≡ least k (marks_of number p (below level ws root) ++ replicate k NONE)) (n : ℕ) (many : n ≡ count (λ m. ltb m NONE) best) (old : List ℕ) where
-    pub names_few : n ≤ length best
-    names_few = omega (arith, many, count_most (λ m. ltb m NONE) best)
-
     names_many : n ≡ length (names_for (stations ws) number k)
     names_many =
-        sym (length-take-le n best names_few)
+        sym (holders_length best many)
         ∙ sym (length-map (take n best) number_in)
         ∙ ap length (names_best k level root is_root isLevel best is n many)
 

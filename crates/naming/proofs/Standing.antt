@@ -19,15 +19,14 @@ use Rattle.table.specs.Words.{Words}
 use Rattle.table.specs.Page.{blank_entry}
 use Rattle.rules.specs.Rules.{leaf_entries}
 use Rattle.filter.specs.Walk.{spot_in}
-use Rattle.naming.specs.declared.find.Whereabouts.{Whereabouts}
-use Rattle.naming.specs.declared.find.Whereabouts.TheVariants.{At, Nowhere}
+use Rattle.std.specs.Prelude.{Option, Some, None}
 use Rattle.naming.specs.Named.{where_in, where_of}
 
 module _ (number : ℕ) where
   -- ---- entry by entry
 
   module _ (es : List Entry) (i : ℕ) (h : i < length es) where
-    pub stands_here : (get_or es i blank_entry).reference ≡ number → where_in number (drop i es) ≡ At (spot_in (get_or es i blank_entry))
+    pub stands_here : (get_or es i blank_entry).reference ≡ number → where_in number (drop i es) ≡ Some (spot_in (get_or es i blank_entry))
     stands_here e = rw (drop-cons es i blank_entry h, eq-eqb (get_or es i blank_entry).reference number e)
 
     pub stands_further : ((get_or es i blank_entry).reference ≡ number → ⊥) → where_in number (drop (i + 1) es) ≡ where_in number (drop i es)
@@ -36,18 +35,18 @@ module _ (number : ℕ) where
   -- ---- slot by slot
 
   -- those before come first
-  where_there : (xs ys : List Entry) (w : Whereabouts) → where_in number xs ≡ w → (w ≡ Nowhere → ⊥) → where_in number (xs ++ ys) ≡ w
+  where_there : (xs ys : List Entry) (w : Option Place) → where_in number xs ≡ w → (w ≡ None → ⊥) → where_in number (xs ++ ys) ≡ w
   where_there [] ys w e n = absurd (n (sym e))
   where_there (x ∷ xs) ys w e n =
       let ih : where_in number xs ≡ w → where_in number (xs ++ ys) ≡ w = λ f. where_there xs ys w f n in
-      by_bool (λ b. cond b (At (spot_in x)) (where_in number xs) ≡ w → cond b (At (spot_in x)) (where_in number (xs ++ ys)) ≡ w)
+      by_bool (λ b. cond b (Some (spot_in x)) (where_in number xs) ≡ w → cond b (Some (spot_in x)) (where_in number (xs ++ ys)) ≡ w)
       (eqb x.reference number) (λ t f. f) (λ t f. ih f) e
 
-  where_behind : (xs ys : List Entry) → where_in number xs ≡ Nowhere → where_in number (xs ++ ys) ≡ where_in number ys
+  where_behind : (xs ys : List Entry) → where_in number xs ≡ None → where_in number (xs ++ ys) ≡ where_in number ys
   where_behind [] ys e = refl
   where_behind (x ∷ xs) ys e =
-      let ih : where_in number xs ≡ Nowhere → where_in number (xs ++ ys) ≡ where_in number ys = λ f. where_behind xs ys f in
-      by_bool (λ b. cond b (At (spot_in x)) (where_in number xs) ≡ Nowhere → cond b (At (spot_in x)) (where_in number (xs ++ ys)) ≡ where_in number ys)
+      let ih : where_in number xs ≡ None → where_in number (xs ++ ys) ≡ where_in number ys = λ f. where_behind xs ys f in
+      by_bool (λ b. cond b (Some (spot_in x)) (where_in number xs) ≡ None → cond b (Some (spot_in x)) (where_in number (xs ++ ys)) ≡ where_in number ys)
       (eqb x.reference number) (λ t f. let z : ◌≡◌ {A = ℕ} 0 1 = cc in absurd (omega arith)) (λ t f. ih f) e
 
   module _ (f : ℕ → List Entry) (n slot : ℕ) (h : slot < n) where
@@ -56,22 +55,22 @@ module _ (number : ℕ) where
         let e : n - slot ≡ suc (n - (slot + 1)) = omega arith in
         rw (e, add-one slot)
 
-    pub slot_here : (w : Whereabouts) → where_in number (f slot) ≡ w → (w ≡ Nowhere → ⊥) → where_in number (join f (up_from slot (n - slot))) ≡ w
+    pub slot_here : (w : Option Place) → where_in number (f slot) ≡ w → (w ≡ None → ⊥) → where_in number (join f (up_from slot (n - slot))) ≡ w
     slot_here w e some = ap (λ l. where_in number (join f l)) next_slot ∙ where_there (f slot) (join f (up_from (slot + 1) (n - (slot + 1)))) w e some
 
-    pub slot_further : where_in number (f slot) ≡ Nowhere
+    pub slot_further : where_in number (f slot) ≡ None
         → where_in number (join f (up_from (slot + 1) (n - (slot + 1)))) ≡ where_in number (join f (up_from slot (n - slot)))
     slot_further e =
         sym (ap (λ l. where_in number (join f l)) next_slot ∙ where_behind (f slot) (join f (up_from (slot + 1) (n - (slot + 1)))) e)
 
-  pub no_slot : (f : ℕ → List Entry) (n slot : ℕ) → n ≤ slot → where_in number (join f (up_from slot (n - slot))) ≡ Nowhere
+  pub no_slot : (f : ℕ → List Entry) (n slot : ℕ) → n ≤ slot → where_in number (join f (up_from slot (n - slot))) ≡ None
   no_slot f n slot h =
       let e : n - slot ≡ 0 = omega arith in
       rw e
 
 -- ---- by the case of the answer
 
-pub somewhere : (w : Whereabouts) (p : Place) → w ≡ At p → w ≡ Nowhere → ⊥
+pub somewhere : (w : Option Place) (p : Place) → w ≡ Some p → w ≡ None → ⊥
 somewhere w p e n = let z : ◌≡◌ {A = ℕ} 0 1 = cc in absurd (omega arith)
 
 -- from slot to slot; nothing of it is computed

@@ -3,7 +3,7 @@ ghost use Rattle.std.specs.Prelude.{◌≡◌, true, [], ◌∷◌, ◌++◌, �
 ghost use Rattle.grid.specs.Place.{PlaceOnGrid};
 ghost use Rattle.order.specs.Lists.{All, Rises};
 ghost use Rattle.order.specs.Order.{least};
-ghost use Rattle.figures.specs.Figures.{SLOTS, LENGTH};
+ghost use Rattle.figures.specs.Figures.{SLOTS};
 ghost use Rattle.table.specs.Slots.{entries_at};
 ghost use Rattle.table.specs.Stations.{is_point};
 ghost use Rattle.filter.specs.Passable.{Passable};
@@ -11,71 +11,55 @@ ghost use Rattle.vetting.specs.Test.{below as below_of, Boxed};
 ghost use Rattle.naming.specs.Holders.{marks_of};
 
 use crate::best::{is_beyond, mark_of, offer};
+use crate::holder::Holder;
+use figures::Words;
+use filter::candidate::spot_in;
 use filter::nearest::nearest;
-use grid::place::Place;
 use table::node::Entry;
 use table::slot::{count_at, entry_at};
 
 // One point: the station itself is on no card of its own.
-fn offer_point(e: Entry, number: usize, p: Place, best: &mut [u64])
-    requires { (is_point e ≡ true) × PlaceOnGrid p × (0 < length best.old) × Rises best.old }
-    ensures { best.new ≡ least (length best.old) (marks_of number p (e ∷ []) ++ best.old) }
+fn offer_point(e: Entry, holder: Holder, best: &mut [u64])
+    requires { (is_point e ≡ true) × PlaceOnGrid holder.place × (0 < length best.old) × Rises best.old }
+    ensures { best.new ≡ least (length best.old) (marks_of holder.number holder.place (e ∷ []) ++ best.old) }
 {
     let other = e.reference;
-    if other == number {
+    if other == holder.number {
         return;
     }
-    let c = Place {
-        x: e.rect.x.low,
-        y: e.rect.y.low,
-    };
-    offer(best, mark_of(c.square_to(p), other));
+    offer(best, mark_of(spot_in(e).square_to(holder.place), other));
 }
 
 // The points of a leaf, in any order.
-fn offer_leaf(table: &[i32], slot: usize, number: usize, p: Place, best: &mut [u64])
-    requires table_len { (length table.now ≡ LENGTH) × (slot < SLOTS) × PlaceOnGrid p }
+fn offer_leaf(table: &Words, slot: usize, holder: Holder, best: &mut [u64])
+    requires within { (slot < SLOTS) × PlaceOnGrid holder.place }
     requires all { All (λ e. is_point e ≡ true) (entries_at table.now slot) × (0 < length best.old) × Rises best.old }
-    ensures { best.new ≡ least (length best.old) (marks_of number p (entries_at table.now slot) ++ best.old) }
+    ensures { best.new ≡ least (length best.old) (marks_of holder.number holder.place (entries_at table.now slot) ++ best.old) }
 {
-    let count = count_at(table, slot);
-    let mut i = 0;
-    while i < count {
+    for i in 0..count_at(table, slot) {
         let e = entry_at(table, slot, i);
-        offer_point(e, number, p, best);
-        i += 1;
+        offer_point(e, holder, best);
     }
 }
 
 // All points below a node.
-pub fn offer_below(
-    table: &[i32],
-    slot: usize,
-    level: usize,
-    number: usize,
-    p: Place,
-    best: &mut [u64],
-)
-    requires table_len { (length table.now ≡ LENGTH) × PlaceOnGrid p × Passable level table.now slot × Boxed level table.now slot }
-    requires best_nonzero { (0 < length best.old) × Rises best.old }
-    ensures { best.new ≡ least (length best.old) (marks_of number p (below_of level table.now slot) ++ best.old) }
+pub fn offer_below(table: &Words, slot: usize, level: usize, holder: Holder, best: &mut [u64])
+    requires passable { PlaceOnGrid holder.place × Passable level table.now slot × Boxed level table.now slot }
+    requires best { (0 < length best.old) × Rises best.old }
+    ensures { best.new ≡ least (length best.old) (marks_of holder.number holder.place (below_of level table.now slot) ++ best.old) }
 {
     if level == 0 {
-        offer_leaf(table, slot, number, p, best);
+        offer_leaf(table, slot, holder, best);
         return;
     }
-    let row = nearest(table, slot, p);
-    let count = count_at(table, slot);
-    let mut i = 0;
-    while i < count {
-        let at = row[i];
-        let e = entry_at(table, slot, at);
+    let row = nearest(table, slot, holder.place);
+    for at in &row[..count_at(table, slot)] {
+        let e = entry_at(table, slot, *at);
         // The entries behind it lie no nearer.
-        if is_beyond(best, e.rect.least_square(p)) {
+        if is_beyond(best, e.rect.least_square(holder.place)) {
             return;
         }
         let child = e.reference;
-        offer_below(table, child, level - 1, number, p, best);
-        i += 1;
+        offer_below(table, child, level - 1, holder, best);
     }
 }

@@ -1,53 +1,38 @@
 // Where a station stands: the leaf entry with its number.
-ghost use Rattle.std.specs.Prelude.{◌≡◌, ◌<◌, length};
-ghost use Rattle.figures.specs.Figures.{SLOTS, LENGTH};
+ghost use Rattle.std.specs.Prelude.{◌≡◌, ◌<◌};
+ghost use Rattle.figures.specs.Figures.{SLOTS};
 ghost use Rattle.rules.specs.Rules.{leaf_entries};
 ghost use Rattle.naming.specs.Named.{where_in, where_of};
 
-use figures::Table;
+use figures::{Table, Words};
+use filter::candidate::spot_in;
 use grid::place::Place;
 use table::slot::{count_at, entry_at, level_at};
 
-#[derive(Clone, Copy)]
-pub enum Whereabouts {
-    At(Place),
-    Nowhere,
-}
-
 // In one slot. A free slot has level −1, so it is no leaf.
-fn find_in(table: &[i32], slot: usize, number: usize) -> Whereabouts
-    requires { (length table.now ≡ LENGTH) × (slot < SLOTS) }
+fn find_in(table: &Words, slot: usize, number: usize) -> Option<Place>
+    requires { slot < SLOTS }
     ensures { result ≡ where_in number (leaf_entries table.now slot) }
 {
     if level_at(table, slot) != 0 {
-        return Whereabouts::Nowhere;
+        return None;
     }
-    let count = count_at(table, slot);
-    let mut i = 0;
-    while i < count {
+    for i in 0..count_at(table, slot) {
         let e = entry_at(table, slot, i);
         if e.reference == number {
-            return Whereabouts::At(Place {
-                x: e.rect.x.low,
-                y: e.rect.y.low,
-            });
+            return Some(spot_in(e));
         }
-        i += 1;
     }
-    Whereabouts::Nowhere
+    None
 }
 
-pub fn find(table: &[i32], number: usize) -> Whereabouts
-    requires { length table.now ≡ LENGTH }
+pub fn find(table: &Words, number: usize) -> Option<Place>
     ensures { result ≡ where_of table.now number }
 {
-    let mut slot = 0;
-    while slot < Table::SLOTS {
-        let here = find_in(table, slot, number);
-        if let Whereabouts::At(_) = here {
-            return here;
+    for slot in 0..Table::SLOTS {
+        if let Some(p) = find_in(table, slot, number) {
+            return Some(p);
         }
-        slot += 1;
     }
-    Whereabouts::Nowhere
+    None
 }

@@ -6,4 +6,5 @@
 pub mod best;
 pub mod down;
 pub mod find;
+pub mod holder;
 pub mod names;

@@ -8,7 +8,8 @@ ghost use Rattle.naming.specs.Named.{Namable, Named};
 
 use crate::best::BASE;
 use crate::down::offer_below;
-use grid::place::Place;
+use crate::holder::Holder;
+use figures::Words;
 use table::slot::{level_at, root_of};
 
 // The most names on a card.
@@ -19,47 +20,43 @@ fn names_in(best: &[u64]) -> usize
     ensures { result ≡ count_of (λ m. ltb m NONE) best.now }
 {
     let mut n = 0;
-    let mut i = 0;
-    while i < best.len() {
-        n += order::one(best[i] < order::NONE);
-        i += 1;
+    for mark in best {
+        n += order::one(*mark < order::NONE);
     }
     n
 }
 
-// The first n marks of the row become names at the front of the list.
-fn put_names(best: &[u64], n: usize, list: &mut [u32])
-    requires { (n ≤ length best.now) × (n ≤ length list.old) }
-    ensures { list.new ≡ laid_over (map number_in (take n best.now)) list.old }
+// The marks of holders become names at the front of the list.
+fn put_names(marks: &[u64], list: &mut [u32])
+    requires { length marks.now ≤ length list.old }
+    ensures { list.new ≡ laid_over (map number_in marks.now) list.old }
 {
-    let mut i = 0;
-    while i < n {
-        list[i] = (best[i] % BASE) as u32;
-        i += 1;
+    for (i, mark) in marks.iter().enumerate() {
+        list[i] = (*mark % BASE) as u32;
     }
 }
 
 // The names of the best in the tree go to the list if it has room for them; gives back how many there are.
 // The row has a place for each name of the card, with no holder yet. What it has afterwards nobody reads.
-fn put_best(table: &[i32], number: usize, p: Place, best: &mut [u64], list: &mut [u32]) -> usize
-    requires { Namable table.now number p (length best.old) × (best.old ≡ replicate (length best.old) NONE) }
-    ensures { Named table.now number (length best.old) list.old list.new result }
+fn put_best(table: &Words, holder: Holder, best: &mut [u64], list: &mut [u32]) -> usize
+    requires { Namable table.now holder.number holder.place (length best.old) × (best.old ≡ replicate (length best.old) NONE) }
+    ensures { Named table.now holder.number (length best.old) list.old list.new result }
 {
     let root = root_of(table);
     let level = level_at(table, root);
-    offer_below(table, root, level, number, p, best);
+    offer_below(table, root, level, holder, best);
     let n = names_in(best);
     if n <= list.len() {
-        put_names(best, n, list);
+        put_names(&best[..n], list);
     }
     n
 }
 
-// The card of the station with a number, which stands at p: its k nearest others.
-pub fn put_card(table: &[i32], number: usize, p: Place, k: usize, list: &mut [u32]) -> usize
-    requires { Namable table.now number p k }
-    ensures { Named table.now number k list.old list.new result }
+// The card of a holder that is enrolled: its k nearest others.
+pub fn put_card(table: &Words, holder: Holder, k: usize, list: &mut [u32]) -> usize
+    requires { Namable table.now holder.number holder.place k }
+    ensures { Named table.now holder.number k list.old list.new result }
 {
     let mut best = [order::NONE; MOST];
-    put_best(table, number, p, &mut best[..k], list)
+    put_best(table, holder, &mut best[..k], list)
 }

@@ -6,6 +6,8 @@ use mathlib.Core.Bool.{Bool, true, false, cond, ◌||◌}
 use mathlib.Core.List.{List, [], ◌∷◌, map}
 use lib.Dec.{eqb}
 use borrow.Author.Tests.{eqb-true, eqb-false, eq-eqb, ne_eqb}
+use Rattle.std.specs.Prelude.{Some, None}
+use Rattle.std.specs.Option.{is_some}
 use Rattle.words.specs.Word.{nat_of}
 use Rattle.order.specs.Lists.{has, join}
 use Rattle.order.specs.Order.{up_from}
@@ -19,7 +21,6 @@ use Rattle.table.specs.Stations.{is_leaf, station_of, stations_at, stations}
 use Rattle.rules.specs.Rules.{leaf_entries, numbers_at}
 use Rattle.rules.proofs.Joined.{map_join}
 use Rattle.filter.specs.Walk.{spot_in}
-use Rattle.naming.specs.declared.find.Whereabouts.TheVariants.{At, Nowhere}
 use Rattle.naming.specs.Named.{where_in, where_of}
 use Rattle.refusals.specs.Refusals.{numbers_of}
 
@@ -48,34 +49,20 @@ numbers_of_lem ws = map_join (λ p. p.number) (stations_at ws) slots ∙ ap (λ 
 -- ---- the one search for a number tells whether it is enrolled
 
 module _ (n : ℕ) where
-  pub where_none : (es : List Entry) → where_in n es ≡ Nowhere → has n (map (λ e. e.reference) es) ≡ false
-  where_none [] w = refl
-  where_none (x ∷ xs) w =
-      let ih : where_in n xs ≡ Nowhere → has n (map (λ e. e.reference) xs) ≡ false = where_none xs in
-      by_bool (λ b. eqb x.reference n ≡ b → cond b (At (spot_in x)) (where_in n xs) ≡ Nowhere → (eqb n x.reference || has n (map (λ e. e.reference) xs)) ≡ false)
+  where_is : (es : List Entry) → is_some (where_in n es) ≡ has n (map (λ e. e.reference) es)
+  where_is [] = refl
+  where_is (x ∷ xs) =
+      let ih : is_some (where_in n xs) ≡ has n (map (λ e. e.reference) xs) = where_is xs in
+      by_bool (λ b. eqb x.reference n ≡ b → is_some (cond b (Some (spot_in x)) (where_in n xs)) ≡ (eqb n x.reference || has n (map (λ e. e.reference) xs)))
       (eqb x.reference n)
-      (λ t e f. let z : ◌≡◌ {A = ℕ} 0 1 = cc in absurd (omega arith))
-      (λ t e f. rw (ne_eqb n x.reference (λ s. eqb-false x.reference n e (sym s))) (ih f))
-      refl w
-
-  pub where_some : (es : List Entry) → (where_in n es ≡ Nowhere → ⊥) → has n (map (λ e. e.reference) es) ≡ true
-  where_some [] w = absurd (w refl)
-  where_some (x ∷ xs) w =
-      let ih : (where_in n xs ≡ Nowhere → ⊥) → has n (map (λ e. e.reference) xs) ≡ true = where_some xs in
-      by_bool (λ b. eqb x.reference n ≡ b → (cond b (At (spot_in x)) (where_in n xs) ≡ Nowhere → ⊥) → (eqb n x.reference || has n (map (λ e. e.reference) xs)) ≡ true)
-      (eqb x.reference n)
-      (λ t e f. rw (eq-eqb n x.reference (sym (eqb-true x.reference n e))))
-      (λ t e f. rw (ne_eqb n x.reference (λ s. eqb-false x.reference n e (sym s))) (ih f))
-      refl w
+      (λ t e. rw (eq-eqb n x.reference (sym (eqb-true x.reference n e))))
+      (λ t e. rw (ne_eqb n x.reference (λ s. eqb-false x.reference n e (sym s))) ih)
+      refl
 
   module _ (ws : Words) where
     by_leaves : numbers_of ws ≡ map (λ e. e.reference) (join (leaf_entries ws) slots)
     by_leaves = numbers_of_lem ws ∙ sym (map_join (λ e. e.reference) (leaf_entries ws) slots)
 
-    pub enrolled_not : where_of ws n ≡ Nowhere → has n (numbers_of ws) ≡ false
+    pub enrolled_told : is_some (where_of ws n) ≡ has n (numbers_of ws)
     unfolding where_of
-    enrolled_not w = ap (has n) by_leaves ∙ where_none (join (leaf_entries ws) slots) w
-
-    pub enrolled_is : (where_of ws n ≡ Nowhere → ⊥) → has n (numbers_of ws) ≡ true
-    unfolding where_of
-    enrolled_is w = ap (has n) by_leaves ∙ where_some (join (leaf_entries ws) slots) w
+    enrolled_told = where_is (join (leaf_entries ws) slots) ∙ ap (has n) (sym by_leaves)

@@ -6,18 +6,25 @@ use mathlib.Core.Bool.{Bool, true, false, cond, not}
 use lib.Dec.{eqb}
 use lib.IntN.{ℤ}
 use lib.ListN.{length}
+use mir.Syntax.{w32}
+use mir.Val.{SFits}
 use borrow.Author.Tests.{eq-eqb, eqb-true}
+use Rattle.std.specs.Prelude.{Err}
 use Rattle.grid.specs.declared.site.Site.{Site}
-use Rattle.table.specs.declared.given.Given.{Given}
-use Rattle.table.specs.declared.given.Given.TheVariants.{Done, WrongLength, NotWellFormed, NoSuchNumber, OffGrid, AlreadyEnrolled, Full, NotEnrolled}
+use Rattle.table.specs.declared.given.Refusal.TheVariants.{WrongLength, NotWellFormed, NoSuchNumber, OffGrid, AlreadyEnrolled, Full, NotEnrolled}
 use Rattle.figures.specs.Figures.{LENGTH}
 use Rattle.table.specs.Words.{Words}
 use Rattle.limits.specs.Limits.{no_such_number, off_grid}
+use Rattle.limits.proofs.CallTests.{back, one_passed}
 use Rattle.rules.specs.Rules.{well_formed}
-use Rattle.table.specs.Given.{number_given}
+use Rattle.table.specs.Given.{Given, Done, number_given}
 use Rattle.rules.specs.Broken.{fault_of}
 use Rattle.audit.specs.Check.{wrong_length, malformed, check_gives, bad_at}
 use Rattle.refusals.specs.Refusals.{is_enrolled, is_full, enrol_gives, withdraw_gives}
+
+-- a test of a word, which a callee that was passed it tells of the word read back
+pub said : (test : ℤ → Bool) (x : ℤ) {b : Bool} → SFits w32 x → b ≡ test (back x) → test x ≡ b
+said test x fits e = sym (one_passed test x fits e)
 
 -- ---- a table that does not pass
 
@@ -34,7 +41,7 @@ module _ (x y : Given) where
   not_of_two m p q r false true e f = q (ap number_given (sym e) ∙ f)
   not_of_two m p q r false false e f = r (ap number_given (sym e) ∙ f)
 
-two_pass : (a b : Bool) (rule : ℕ) (slot : ℤ) {g : Given} → g ≡ cond (not a) WrongLength (cond (not b) (NotWellFormed rule slot) Done) → g ≡ Done
+two_pass : (a b : Bool) (rule : ℕ) (slot : ℤ) {g : Given} → g ≡ cond (not a) (Err WrongLength) (cond (not b) (Err (NotWellFormed rule slot)) Done) → g ≡ Done
     → (a ≡ true) × (b ≡ true)
 two_pass true true rule slot e d = (refl, refl)
 two_pass false b rule slot e d = let z : ◌≡◌ {A = ℕ} 1 0 = ap number_given (sym e ∙ d) in absurd (omega arith)
@@ -43,11 +50,11 @@ two_pass true false rule slot e d = let z : ◌≡◌ {A = ℕ} 2 0 = ap number_
 module _ (ws : Words) {g : Given} (e : g ≡ check_gives ws) where
   pub enrol_first : (n : ℤ) (p : Site) → (g ≡ Done → ⊥) → g ≡ enrol_gives ws n p
   unfolding check_gives enrol_gives
-  enrol_first n p d = sym (by_two WrongLength (bad_at ws) (wrong_length ws) (malformed ws) e d _)
+  enrol_first n p d = sym (by_two (Err WrongLength) (Err (bad_at ws)) (wrong_length ws) (malformed ws) e d _)
 
   pub withdraw_first : (n : ℤ) → (g ≡ Done → ⊥) → g ≡ withdraw_gives ws n
   unfolding check_gives withdraw_gives
-  withdraw_first n d = sym (by_two WrongLength (bad_at ws) (wrong_length ws) (malformed ws) e d _)
+  withdraw_first n d = sym (by_two (Err WrongLength) (Err (bad_at ws)) (wrong_length ws) (malformed ws) e d _)
 
   pub passes : g ≡ Done → (length ws ≡ LENGTH) × (well_formed ws ≡ true)
   unfolding check_gives
@@ -59,19 +66,19 @@ module _ (ws : Words) {g : Given} (e : g ≡ check_gives ws) where
 
 module _ (ws : Words) (long : length ws ≡ LENGTH) (rules : well_formed ws ≡ true) where
   module _ (n : ℤ) (p : Site) where
-    pub enrol_3 : no_such_number n ≡ true → enrol_gives ws n p ≡ NoSuchNumber
+    pub enrol_3 : no_such_number n ≡ true → enrol_gives ws n p ≡ Err NoSuchNumber
     unfolding enrol_gives
     enrol_3 a = rw (eq-eqb (length ws) LENGTH long, rules, a)
 
-    pub enrol_4 : no_such_number n ≡ false → off_grid p ≡ true → enrol_gives ws n p ≡ OffGrid
+    pub enrol_4 : no_such_number n ≡ false → off_grid p ≡ true → enrol_gives ws n p ≡ Err OffGrid
     unfolding enrol_gives
     enrol_4 a b = rw (eq-eqb (length ws) LENGTH long, rules, a, b)
 
-    pub enrol_6 : no_such_number n ≡ false → off_grid p ≡ false → is_enrolled ws n ≡ true → enrol_gives ws n p ≡ AlreadyEnrolled
+    pub enrol_6 : no_such_number n ≡ false → off_grid p ≡ false → is_enrolled ws n ≡ true → enrol_gives ws n p ≡ Err AlreadyEnrolled
     unfolding enrol_gives
     enrol_6 a b d = rw (eq-eqb (length ws) LENGTH long, rules, a, b, d)
 
-    pub enrol_7 : no_such_number n ≡ false → off_grid p ≡ false → is_enrolled ws n ≡ false → is_full ws ≡ true → enrol_gives ws n p ≡ Full
+    pub enrol_7 : no_such_number n ≡ false → off_grid p ≡ false → is_enrolled ws n ≡ false → is_full ws ≡ true → enrol_gives ws n p ≡ Err Full
     unfolding enrol_gives
     enrol_7 a b d e = rw (eq-eqb (length ws) LENGTH long, rules, a, b, d, e)
 
@@ -80,11 +87,11 @@ module _ (ws : Words) (long : length ws ≡ LENGTH) (rules : well_formed ws ≡ 
     enrol_0 a b d e = rw (eq-eqb (length ws) LENGTH long, rules, a, b, d, e)
 
   module _ (n : ℤ) where
-    pub withdraw_3 : no_such_number n ≡ true → withdraw_gives ws n ≡ NoSuchNumber
+    pub withdraw_3 : no_such_number n ≡ true → withdraw_gives ws n ≡ Err NoSuchNumber
     unfolding withdraw_gives
     withdraw_3 a = rw (eq-eqb (length ws) LENGTH long, rules, a)
 
-    pub withdraw_8 : no_such_number n ≡ false → is_enrolled ws n ≡ false → withdraw_gives ws n ≡ NotEnrolled
+    pub withdraw_8 : no_such_number n ≡ false → is_enrolled ws n ≡ false → withdraw_gives ws n ≡ Err NotEnrolled
     unfolding withdraw_gives
     withdraw_8 a b = rw (eq-eqb (length ws) LENGTH long, rules, a, b)
 

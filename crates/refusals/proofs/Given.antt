@@ -4,25 +4,12 @@ use mathlib.Core.Bool.{Bool, true, false, cond, not, false≢true}
 use mathlib.Core.List.{List, [], ◌∷◌, ◌++◌}
 use lib.Dec.{eqb}
 use borrow.Author.Tests.{eq-eqb}
+use Rattle.std.specs.Prelude.{Ok, Err}
 use Rattle.order.specs.Lists.{every, All}
 use Rattle.order.proofs.Lists.{by_bool, and_left, and_right}
-use Rattle.table.specs.declared.given.Given.{Given}
-use Rattle.table.specs.declared.given.Given.TheVariants.{
-  Done,
-  WrongLength,
-  NotWellFormed,
-  NoSuchNumber,
-  OffGrid,
-  NoSuchK,
-  AlreadyEnrolled,
-  Full,
-  NotEnrolled,
-  FewCandidates,
-  ShortList,
-  Misshapen,
-  SheetTooLong,
-}
-use Rattle.table.specs.Given.{Line, line, number_given, first_of, if_done}
+use Rattle.table.specs.declared.given.Refusal.{Refusal}
+use Rattle.table.specs.declared.given.Refusal.TheVariants.{WrongLength, NotWellFormed, NoSuchNumber, OffGrid, NoSuchK, AlreadyEnrolled, Full, NotEnrolled, FewCandidates, ShortList, Misshapen, SheetTooLong}
+use Rattle.table.specs.Given.{Given, Done, Line, line, number_given, first_of, if_done}
 use Rattle.refusals.specs.Cases.{if_short_list}
 
 -- ---- by its cases
@@ -33,23 +20,23 @@ pub record Plain (g : Given) : Type 1 where
   pub few : {A : Type 0} (a b : A) → if_short_list g a b ≡ b
 
 -- granted, refused with 10, or refused otherwise
-pub by_given : {Q : Type 0} (g : Given) → (g ≡ Done → Q) → (g ≡ ShortList → Q) → (Plain g → Q) → Q
-by_given Done d f p = d refl
-by_given WrongLength d f p = p (record { done = λ a b. refl; few = λ a b. refl })
-by_given (NotWellFormed rule slot) d f p = p (record { done = λ a b. refl; few = λ a b. refl })
-by_given NoSuchNumber d f p = p (record { done = λ a b. refl; few = λ a b. refl })
-by_given OffGrid d f p = p (record { done = λ a b. refl; few = λ a b. refl })
-by_given NoSuchK d f p = p (record { done = λ a b. refl; few = λ a b. refl })
-by_given AlreadyEnrolled d f p = p (record { done = λ a b. refl; few = λ a b. refl })
-by_given Full d f p = p (record { done = λ a b. refl; few = λ a b. refl })
-by_given NotEnrolled d f p = p (record { done = λ a b. refl; few = λ a b. refl })
-by_given FewCandidates d f p = p (record { done = λ a b. refl; few = λ a b. refl })
-by_given ShortList d f p = f refl
-by_given Misshapen d f p = p (record { done = λ a b. refl; few = λ a b. refl })
-by_given SheetTooLong d f p = p (record { done = λ a b. refl; few = λ a b. refl })
+pub by_given : {Q : Type 0} (g : Given) → (g ≡ Done → Q) → (g ≡ Err ShortList → Q) → (Plain g → Q) → Q
+by_given (Ok u) d f p = d refl
+by_given (Err WrongLength) d f p = p (record { done = λ a b. refl; few = λ a b. refl })
+by_given (Err (NotWellFormed rule slot)) d f p = p (record { done = λ a b. refl; few = λ a b. refl })
+by_given (Err NoSuchNumber) d f p = p (record { done = λ a b. refl; few = λ a b. refl })
+by_given (Err OffGrid) d f p = p (record { done = λ a b. refl; few = λ a b. refl })
+by_given (Err NoSuchK) d f p = p (record { done = λ a b. refl; few = λ a b. refl })
+by_given (Err AlreadyEnrolled) d f p = p (record { done = λ a b. refl; few = λ a b. refl })
+by_given (Err Full) d f p = p (record { done = λ a b. refl; few = λ a b. refl })
+by_given (Err NotEnrolled) d f p = p (record { done = λ a b. refl; few = λ a b. refl })
+by_given (Err FewCandidates) d f p = p (record { done = λ a b. refl; few = λ a b. refl })
+by_given (Err ShortList) d f p = f refl
+by_given (Err Misshapen) d f p = p (record { done = λ a b. refl; few = λ a b. refl })
+by_given (Err SheetTooLong) d f p = p (record { done = λ a b. refl; few = λ a b. refl })
 
 module _ (g : Given) where
-  pub if_not_few : {A : Type 0} → (g ≡ ShortList → ⊥) → (a b : A) → if_short_list g a b ≡ b
+  pub if_not_few : {A : Type 0} → (g ≡ Err ShortList → ⊥) → (a b : A) → if_short_list g a b ≡ b
   if_not_few n a b = by_given g (λ e. ap (λ x. if_short_list x a b) e) (λ e. absurd (n e)) (λ p. p.few a b)
 
   -- a fact of two things that a granted call makes, and a refused one leaves
@@ -75,9 +62,9 @@ passed_before g (l ∷ ls) ms o e =
     (λ f h d. let rest = passed_before g ls ms (and_right (other_than g l) (every (other_than g) ls) o) d in ((h, rest.0), rest.1)) refl e
 
 -- the last line holds if its refusal is given
-pub last_holds : (b : Bool) (g : Given) → if_done g true false ≡ false → first_of (line b g ∷ []) ≡ g → b ≡ true
-last_holds true g r e = refl
-last_holds false g r e = absurd (false≢true (sym r ∙ ap (λ d. if_done d true false) (sym e)))
+pub last_holds : (b : Bool) (r : Refusal) → first_of (line b r ∷ []) ≡ Err r → b ≡ true
+last_holds true r e = refl
+last_holds false r e = cc
 
 -- a call that passes every line is granted
 pub all_passed : (ls : List Line) → All (λ l. l.holds ≡ false) ls → first_of ls ≡ Done

@@ -3,3 +3,4 @@ pub mod CardOrder
 pub mod CallNumbers
 pub mod CallOrder
 pub mod QueryOrder
+pub mod TellsAll

@@ -8,17 +8,17 @@ use lib.Dec.{ltb}
 use lib.IntN.{ℤ}
 use lib.ListN.{length}
 use borrow.Author.Tests.{eq-eqb, le-ltb}
+use Rattle.std.specs.Prelude.{Err}
 use Rattle.words.specs.Word.{nat_of}
 use Rattle.grid.specs.declared.site.Site.{Site}
 use Rattle.order.specs.Lists.{All}
 use Rattle.order.proofs.Lists.{by_bool}
-use Rattle.table.specs.declared.given.Given.{Given}
-use Rattle.table.specs.declared.given.Given.TheVariants.{Done, WrongLength, OffGrid, NoSuchK, FewCandidates, ShortList}
+use Rattle.table.specs.declared.given.Refusal.TheVariants.{WrongLength, OffGrid, NoSuchK, FewCandidates, ShortList}
 use Rattle.figures.specs.Figures.{LENGTH}
 use Rattle.table.specs.Words.{Words, points_of}
 use Rattle.limits.specs.Limits.{off_grid, no_such_k}
 use Rattle.rules.specs.Rules.{well_formed}
-use Rattle.table.specs.Given.{Line, line, number_given, first_of}
+use Rattle.table.specs.Given.{Given, Done, Line, line, number_given, first_of}
 use Rattle.audit.specs.Check.{wrong_length, malformed, check_gives, bad_at}
 use Rattle.filter.specs.Query.{answers_found}
 use Rattle.refusals.specs.Refusals.{query_gives}
@@ -28,21 +28,21 @@ use Rattle.refusals.proofs.CallOrder.{by_two}
 -- ---- the order
 
 module _ (ws : Words) (long : length ws ≡ LENGTH) (rules : well_formed ws ≡ true) (q : Site) (k : ℤ) (room places : ℕ) where
-  pub query_4 : off_grid q ≡ true → query_gives ws q k room places ≡ OffGrid
+  pub query_4 : off_grid q ≡ true → query_gives ws q k room places ≡ Err OffGrid
   unfolding query_gives
   query_4 a = rw (eq-eqb (length ws) LENGTH long, rules, a)
 
-  pub query_5 : off_grid q ≡ false → no_such_k k ≡ true → query_gives ws q k room places ≡ NoSuchK
+  pub query_5 : off_grid q ≡ false → no_such_k k ≡ true → query_gives ws q k room places ≡ Err NoSuchK
   unfolding query_gives
   query_5 a b = rw (eq-eqb (length ws) LENGTH long, rules, a, b)
 
-  pub query_9 : off_grid q ≡ false → no_such_k k ≡ false → ltb room (points_of ws) ≡ true → query_gives ws q k room places ≡ FewCandidates
+  pub query_9 : off_grid q ≡ false → no_such_k k ≡ false → ltb room (points_of ws) ≡ true → query_gives ws q k room places ≡ Err FewCandidates
   unfolding query_gives
   query_9 a b d = rw (eq-eqb (length ws) LENGTH long, rules, a, b, d)
 
   -- then the answer list decides
   pub query_last : off_grid q ≡ false → no_such_k k ≡ false → ltb room (points_of ws) ≡ false
-      → query_gives ws q k room places ≡ cond (ltb places (length (answers_found ws q (nat_of k)))) ShortList Done
+      → query_gives ws q k room places ≡ cond (ltb places (length (answers_found ws q (nat_of k)))) (Err ShortList) Done
   unfolding query_gives
   query_last a b d = rw (eq-eqb (length ws) LENGTH long, rules, a, b, d)
 
@@ -84,13 +84,13 @@ module _ (ws : Words) (q : Site) (k : ℤ) (room : ℕ) where
     unfolding query_gives
     query_early d places = early (before10 ws q k room) (ltb places (answers_told ws q k)) (e ∙ enough) d
 
-    pub not_few : g ≡ ShortList → ⊥
+    pub not_few : g ≡ Err ShortList → ⊥
     not_few f =
-        let h = (passed_before ShortList (before10 ws q k room) (line false ShortList ∷ []) refl (sym enough ∙ sym e ∙ f)).1 in
+        let h = (passed_before (Err ShortList) (before10 ws q k room) (line false ShortList ∷ []) refl (sym enough ∙ sym e ∙ f)).1 in
         let z : ◌≡◌ {A = ℕ} 0 10 = ap number_given h in
         omega arith
 
-    pub query_late : g ≡ Done → (places : ℕ) → query_gives ws q k room places ≡ cond (ltb places (answers_told ws q k)) ShortList Done
+    pub query_late : g ≡ Done → (places : ℕ) → query_gives ws q k room places ≡ cond (ltb places (answers_told ws q k)) (Err ShortList) Done
     unfolding query_gives
     query_late d places =
         all_before (before10 ws q k room) (line (ltb places (answers_told ws q k)) ShortList ∷ [])
@@ -99,4 +99,4 @@ module _ (ws : Words) (q : Site) (k : ℤ) (room : ℕ) where
   -- what the check refuses, the query refuses
   pub query_first : {g : Given} → g ≡ check_gives ws → (g ≡ Done → ⊥) → (places : ℕ) → g ≡ query_gives ws q k room places
   unfolding check_gives query_gives
-  query_first e d places = sym (by_two WrongLength (bad_at ws) (wrong_length ws) (malformed ws) e d _)
+  query_first e d places = sym (by_two (Err WrongLength) (Err (bad_at ws)) (wrong_length ws) (malformed ws) e d _)

@@ -1,9 +1,8 @@
 -- What depends on the answer of a call: on whether it is refusal 10, and whether it is a refusal at all.
-use Rattle.std.specs.Prelude.{Bool, true, false}
-use Rattle.table.specs.Given.{if_done}
-use Rattle.table.specs.declared.given.Given.{Given}
-use Rattle.table.specs.declared.given.Given.TheVariants.{
-  Done,
+use Rattle.std.specs.Prelude.{Bool, true, false, Ok, Err}
+use Rattle.table.specs.Given.{Given, if_done}
+use Rattle.table.specs.declared.given.Refusal.{Refusal}
+use Rattle.table.specs.declared.given.Refusal.TheVariants.{
   WrongLength,
   NotWellFormed,
   NoSuchNumber,
@@ -18,21 +17,25 @@ use Rattle.table.specs.declared.given.Given.TheVariants.{
   SheetTooLong,
 }
 
+-- one thing if the refusal is 10, another otherwise
+abbrev pub if_short : {A : Type 0} → Refusal → A → A → A
+if_short ShortList a b = a
+if_short WrongLength a b = b
+if_short (NotWellFormed rule slot) a b = b
+if_short NoSuchNumber a b = b
+if_short OffGrid a b = b
+if_short NoSuchK a b = b
+if_short AlreadyEnrolled a b = b
+if_short Full a b = b
+if_short NotEnrolled a b = b
+if_short FewCandidates a b = b
+if_short Misshapen a b = b
+if_short SheetTooLong a b = b
+
 -- one thing if the query is refused with 10, another otherwise
 abbrev pub if_short_list : {A : Type 0} → Given → A → A → A
-if_short_list ShortList a b = a
-if_short_list Done a b = b
-if_short_list WrongLength a b = b
-if_short_list (NotWellFormed rule slot) a b = b
-if_short_list NoSuchNumber a b = b
-if_short_list OffGrid a b = b
-if_short_list NoSuchK a b = b
-if_short_list AlreadyEnrolled a b = b
-if_short_list Full a b = b
-if_short_list NotEnrolled a b = b
-if_short_list FewCandidates a b = b
-if_short_list Misshapen a b = b
-if_short_list SheetTooLong a b = b
+if_short_list (Ok u) a b = b
+if_short_list (Err r) a b = if_short r a b
 
 -- the answer is a refusal
 abbrev pub refuses : Given → Bool

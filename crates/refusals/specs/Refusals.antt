@@ -6,13 +6,12 @@ use Rattle.order.specs.Lists.{has}
 use Rattle.figures.specs.Figures.{MOST}
 use Rattle.table.specs.Words.{Words, points_of}
 use Rattle.table.specs.Stations.{stations}
-use Rattle.table.specs.Given.{Line, line, first_of}
+use Rattle.table.specs.Given.{Given, Line, line, first_of}
 use Rattle.limits.specs.Limits.{no_such_number, off_grid, no_such_k}
 use Rattle.audit.specs.Check.{wrong_length, malformed, bad_at}
 use Rattle.filter.specs.Query.{answers_found}
 use Rattle.card.specs.Card.{names_for}
-use Rattle.table.specs.declared.given.Given.{Given}
-use Rattle.table.specs.declared.given.Given.TheVariants.{
+use Rattle.table.specs.declared.given.Refusal.TheVariants.{
   WrongLength,
   NoSuchNumber,
   OffGrid,

@@ -1,58 +1,32 @@
-// What a query hands back where it is refused, and where its answer list is short.
+// What a query or a card hands back where it is not granted, and where its list is short.
 ghost use Rattle.std.specs.Prelude.{◌≡◌};
-ghost use Rattle.refusals.specs.Cases.{refuses};
 ghost use Rattle.refusals.specs.Told.{told};
 
-use asking::answer::Reply;
-use table::given::Given;
+use table::given::Refusal;
 
-// What a query hands back: n answers, m candidates, o nodes opened.
+// Why it is refused, and the length that the list lacks: of refusal 10 alone, 0 with any other.
 #[derive(Clone, Copy)]
-pub struct Answered {
-    pub given: Given,
-    pub n: usize,
-    pub m: usize,
-    pub o: usize,
+pub struct Refused {
+    pub why: Refusal,
+    pub length: usize,
 }
 
 // A refusal has zero counts.
-pub fn refused(given: Given) -> Answered
-    ensures { result ≡ record { given = given; n = 0; m = 0; o = 0 } }
-{
-    Answered {
-        given,
-        n: 0,
-        m: 0,
-        o: 0,
+impl From<Refusal> for Refused {
+    ghost from_gives = { λ why r. r ≡ record { why = why; length = 0 } };
+
+    fn from(why: Refusal) -> Refused {
+        Refused { why, length: 0 }
     }
 }
 
-// Whether an answer is a refusal.
-pub fn is_refused(given: Given) -> bool
-    ensures { result ≡ refuses given }
+// What is handed back of a reply of this length where the list has so many places: 10 gives the length alone.
+pub fn told<T: Copy>(reply: T, length: usize, places: usize) -> Result<T, Refused>
+    ensures { result ≡ told reply length places }
 {
-    let Given::Done = given else {
-        return true;
-    };
-    false
-}
-
-// What is handed back where the answer list has so many places: 10 gives n alone.
-pub fn handed_back(reply: Reply, places: usize) -> Answered
-    ensures { result ≡ told reply places }
-{
-    if places < reply.n {
-        return Answered {
-            given: Given::ShortList,
-            n: reply.n,
-            m: 0,
-            o: 0,
-        };
+    if places < length {
+        let why = Refusal::ShortList;
+        return Err(Refused { why, length });
     }
-    Answered {
-        given: Given::Done,
-        n: reply.n,
-        m: reply.m,
-        o: reply.o,
-    }
+    Ok(reply)
 }

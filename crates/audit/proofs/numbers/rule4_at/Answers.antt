@@ -22,13 +22,8 @@ returns-then-level_at-ne0 c =
     let f = ne_eqb (level_at ws c.args.slot) 0 (λ e. c.if-level_at-ne0.true (c.level_at.ensures ∙ e)) in
     record {
       answer = rw f;
-      marks = λ e. rw (join_more (numbers_at ws) c.args.slot, f, append-nil) c.requires.2;
+      marks = λ e. rw (join_more (numbers_at ws) c.args.slot, f, append-nil) c.requires.1;
     }
-
-pub all_points-requires : goal.all_points-requires
-all_points-requires c =
-    let a = c.args in
-    omega (arith, c.node_at-n.ensures.count, page_few a.table.now a.slot)
 
 pub returns-then-not-all_points : goal.returns-then-not-all_points
 unfolding rule4
@@ -43,11 +38,7 @@ returns-then-not-all_points c =
     }
 
 pub mark-requires : goal.mark-requires
-mark-requires c =
-    let a = c.args in (
-      omega (arith, c.node_at-n.ensures.count, page_few a.table.now a.slot),
-      passed c.all_points.ensures c.if-not-all_points.false,
-    )
+mark-requires c = passed c.all_points.ensures c.if-not-all_points.false
 
 pub returns : goal.returns
 unfolding rule4
@@ -59,7 +50,7 @@ returns c =
     let p : every is_point (entries_at ws slot) ≡ true =
     ap (every is_point) (sym c.node_at-n.ensures.entries) ∙ passed c.all_points.ensures c.if-not-all_points.false in
     let n : Entered before (refs_of (entries_at ws slot)) c.mark.result c.mark.new.seen =
-    subst (λ es. Entered before (refs_of es) c.mark.result c.mark.new.seen) c.node_at-n.ensures.entries (c.mark.ensures before c.requires.2) in
+    subst (λ es. Entered before (refs_of es) c.mark.result c.mark.new.seen) c.node_at-n.ensures.entries (c.mark.ensures before c.requires.1) in
     record {
       answer = rw (l, p) n.answer;
       marks = λ e. rw (join_more (numbers_at ws) slot, l) (n.marks e);

@@ -21,11 +21,8 @@ count_references-requires c =
     let slot = c.args.slot in
     let above : is_above ws slot ≡ true = sym c.is_above.ensures ∙ c.if-is_above.true in
     record {
-      room = (c.requires.so_far.long, tally_few ws c.args.times.now slot (omega arith) c.requires.so_far);
-      inside = (
-        omega (arith, c.node_at-n.ensures.count, page_few ws slot),
-        subst (All (λ e. e.reference < SLOTS)) (sym c.node_at-n.ensures.entries) (children_inside ws slot above c.requires.table_len.2),
-      );
+      room = tally_few ws c.args.times.now slot (omega arith) c.requires.so_far;
+      inside = subst (All (λ e. e.reference < SLOTS)) (sym c.node_at-n.ensures.entries) (children_inside ws slot above c.requires.children.1);
     }
 
 pub returns-then-is_above : goal.returns-then-is_above

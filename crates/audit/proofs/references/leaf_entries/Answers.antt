@@ -23,6 +23,5 @@ loop-slot-preserved c =
 pub returns : goal.returns
 unfolding stations
 returns c =
-    let ws = c.args.table.now in
     let e : c.loop-slot.slot ≡ SLOTS = omega arith in
-    c.loop-slot.invariant.1 ∙ ap (λ n. length (join (stations_at ws) (up_from 0 n))) e
+    c.loop-slot.invariant.0 ∙ ap (λ n. length (join (stations_at c.args.table.now) (up_from 0 n))) e

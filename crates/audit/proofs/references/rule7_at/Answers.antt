@@ -22,7 +22,7 @@ returns-then-root_of-slot c =
     let ws = c.args.table.now in
     let f : is_free ws c.args.slot ≡ false = sym c.is_free.ensures ∙ c.if-is_free.false in
     let e = eq-eqb (root_of ws) c.args.slot (sym c.root_of.ensures ∙ c.if-root_of-slot.true) in
-    rw (f, e) (ap (λ n. eqb n 0) (c.requires.2.exact c.args.slot (omega arith)))
+    rw (f, e) (ap (λ n. eqb n 0) (c.requires.1.exact c.args.slot (omega arith)))
 
 pub returns : goal.returns
 unfolding rule7
@@ -30,4 +30,4 @@ returns c =
     let ws = c.args.table.now in
     let f : is_free ws c.args.slot ≡ false = sym c.is_free.ensures ∙ c.if-is_free.false in
     let e = ne_eqb (root_of ws) c.args.slot (λ q. c.if-root_of-slot.false (c.root_of.ensures ∙ q)) in
-    rw (f, e) (ap (λ n. eqb n 1) (c.requires.2.exact c.args.slot (omega arith)))
+    rw (f, e) (ap (λ n. eqb n 1) (c.requires.1.exact c.args.slot (omega arith)))

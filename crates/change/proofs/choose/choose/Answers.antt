@@ -20,10 +20,10 @@ loop-k-preserved c =
     let r : c.takes_before.result ≡ takes_before a.new (entry_in es l.k).rect (entry_in es l.best).rect =
     rw (held_at a.n l.k (omega arith), held_at a.n l.best (omega arith)) c.takes_before.ensures in
     let e : chosen_up_to a.new es (l.k + 1 - 1) ≡ cond c.takes_before.result l.k l.best =
-    cc (chosen_step a.new es l.k l.invariant.0) in
+    cc (chosen_step a.new es l.k (omega arith)) in
     elim c.if-takes_before.branch [
-      | then-takes_before w ↦ (omega arith, omega arith, omega arith, w.best-is ∙ sym (e ∙ ap (λ b. cond b l.k l.best) w.if-takes_before.true))
-      | else-takes_before w ↦ (omega arith, omega arith, omega arith, w.best-is ∙ sym (e ∙ ap (λ b. cond b l.k l.best) w.if-takes_before.false))
+      | then-takes_before w ↦ (omega arith, w.best-is ∙ sym (e ∙ ap (λ b. cond b l.k l.best) w.if-takes_before.true))
+      | else-takes_before w ↦ (omega arith, w.best-is ∙ sym (e ∙ ap (λ b. cond b l.k l.best) w.if-takes_before.false))
     ]
 
 pub returns : goal.returns
@@ -31,5 +31,5 @@ unfolding chosen
 returns c =
     let l = c.loop-k in
     let n = c.args.n in
-    let k : l.k - 1 ≡ length (held n) - 1 = omega (arith, held_length n (full n c.well_formed.0) (omega arith)) in
-    l.invariant.3 ∙ ap (chosen_up_to c.args.new (held n)) k
+    let k : l.k - 1 ≡ length (held n) - 1 = omega (arith, held_length n (full n c.well_formed.0)) in
+    l.invariant.1 ∙ ap (chosen_up_to c.args.new (held n)) k

@@ -1,12 +1,9 @@
 -- `change::choose::choose` meets its contract. The invariant: `best` is the choice among the first k entries. Assumes nothing.
-use Prim.Native.Nat.{◌-◌, ◌≤◌, ◌<◌}
+use Prim.Native.Nat.{◌-◌, ◌<◌}
 use mathlib.Core.Path.{◌≡◌}
 use Rattle.table.specs.Page.{held}
 use Rattle.change.specs.Choose.{chosen_up_to}
 use Rattle.change.proofs.choose.choose.Given as goal
 
 abbrev pub invariant-loop-k : goal.invariant-loop-k
-invariant-loop-k l = (1 ≤ l.k) × (l.k ≤ l.count) × (l.best < l.k) × (l.best ≡ chosen_up_to l.new (held l.n) (l.k - 1))
-
-abbrev pub decreases-loop-k : goal.decreases-loop-k
-decreases-loop-k l = l.count - l.k
+invariant-loop-k l = (l.best < l.k) × (l.best ≡ chosen_up_to l.new (held l.n) (l.k - 1))

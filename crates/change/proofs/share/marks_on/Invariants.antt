@@ -1,18 +1,8 @@
 -- `change::share::marks_on` meets its contract. The invariant: the sums of the first k entries are marked. Assumes nothing.
-use Prim.Native.Nat.{ℕ, ◌-◌, ◌≤◌}
-use mathlib.Core.List.{List, map}
-use Rattle.grid.specs.declared.rect.Axis.{Axis}
+use mathlib.Core.List.{map}
 use Rattle.grid.specs.Place.{sum_on}
 use Rattle.order.proofs.Marks.{Marked}
-use Rattle.table.specs.declared.node.Node.{Node}
-use Rattle.table.specs.Page.{held}
 use Rattle.change.proofs.share.marks_on.Given as goal
 
-abbrev pub sums : Axis → Node → List ℕ
-sums axis n = map (λ e. sum_on axis e.rect) (held n)
-
 abbrev pub invariant-loop-k : goal.invariant-loop-k
-invariant-loop-k l = (l.k ≤ l.count) × Marked (sums l.axis l.n) l.k l.marks
-
-abbrev pub decreases-loop-k : goal.decreases-loop-k
-decreases-loop-k l = l.count - l.k
+invariant-loop-k l = Marked (map (λ e. sum_on l.axis e.rect) l.e-items) l.k l.marks

@@ -1,5 +1,4 @@
 -- `change::share::placed_by` meets its contract. The invariant: the entries at the first k places of the row have been copied. Assumes nothing.
-use Prim.Native.Nat.{◌-◌, ◌≤◌}
 use mathlib.Core.Path.{◌≡◌}
 use lib.Seq.{paste}
 use Rattle.order.specs.Order.{pick}
@@ -8,7 +7,4 @@ use Rattle.change.proofs.share.placed_by.Given as goal
 
 abbrev pub invariant-loop-k : goal.invariant-loop-k
 invariant-loop-k l =
-    (l.k ≤ l.count) × (l.m.level ≡ l.n.level) × (l.m.count ≡ l.count) × (l.m.entries ≡ paste l.n.entries 0 (pick l.n.entries blank_entry l.row) l.k)
-
-abbrev pub decreases-loop-k : goal.decreases-loop-k
-decreases-loop-k l = l.count - l.k
+    l.entries ≡ paste l.n.entries 0 (pick l.n.entries blank_entry l.row) l.k

@@ -6,12 +6,10 @@ use Rattle.words.proofs.Machine.{natural_passed}
 use Rattle.grid.specs.Site.{site}
 use Rattle.figures.specs.Figures.{MOST}
 use Rattle.rules.specs.Rules.{Passing}
-use Rattle.table.specs.declared.given.Given.TheVariants.{Done}
 use Rattle.asking.specs.Slate.{Slate, slate, Wide}
 use Rattle.asking.specs.Asked.{Replied}
-use Rattle.refusals.specs.declared.answered.Answered.{Answered}
 use Rattle.refusals.specs.Refusals.{query_gives}
-use Rattle.refusals.specs.Told.{told}
+use Rattle.refusals.specs.Told.{Answered, told}
 use Rattle.limits.proofs.CallTests.{three_passed, two_back}
 use Rattle.refusals.proofs.QueryOrder.{answers_told}
 use Rattle.desk.specs.Alone.{AnswersAlone}
@@ -20,6 +18,7 @@ use Rattle.grid.proofs.Sites.{site_passed}
 use Rattle.desk.proofs.Granted.{QueryReady, query_granted}
 use Rattle.desk.proofs.CallList.{refused_not_done, not_refused_done}
 use Rattle.desk.proofs.CallAlone.{alone_refused, alone_told}
+use Rattle.table.specs.Given.{Done}
 use Rattle.desk.proofs.answers.answers_passing.Goals as goal
 
 wide_less : {m n : ℕ} {s : Slate} → m ≤ n → Wide n s → Wide m s

@@ -1,7 +1,7 @@
 -- `cards::card` meets its contract: what the check refuses is refused, and a table that passes is one for `card_passing`. Assumes nothing.
 use mathlib.Core.Path.{sym, subst}
 use lib.ListN.{length}
-use Rattle.refusals.specs.declared.carding.Carded.{Carded}
+use Rattle.refusals.specs.Told.{Carded}
 use Rattle.refusals.proofs.CallOrder.{passes}
 use Rattle.refusals.proofs.CardOrder.{check_not_short, card_first}
 use Rattle.desk.specs.Carding.{Cards}

@@ -6,11 +6,10 @@ use lib.ListN.{length}
 use Rattle.words.proofs.Machine.{natural_passed}
 use Rattle.words.specs.Word.{nat_of}
 use Rattle.order.specs.Lists.{has}
-use Rattle.table.specs.declared.given.Given.TheVariants.{Done}
-use Rattle.table.specs.Given.{number_given}
+use Rattle.table.specs.Given.{Done, number_given}
 use Rattle.naming.specs.Named.{Named}
 use Rattle.naming.proofs.Standing.{somewhere}
-use Rattle.refusals.specs.declared.carding.Carded.{Carded}
+use Rattle.refusals.specs.Told.{Carded}
 use Rattle.refusals.specs.Refusals.{numbers_of}
 use Rattle.refusals.specs.Carding.{card_asked}
 use Rattle.limits.proofs.CallTests.{two_passed}

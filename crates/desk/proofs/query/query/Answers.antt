@@ -2,7 +2,7 @@
 use mathlib.Core.Path.{sym, subst, ◌∙◌}
 use lib.ListN.{length}
 use Rattle.grid.specs.Site.{site}
-use Rattle.refusals.specs.declared.answered.Answered.{Answered}
+use Rattle.refusals.specs.Told.{Answered}
 use Rattle.refusals.proofs.CallOrder.{passes}
 use Rattle.refusals.proofs.QueryOrder.{answers_told, query_first}
 use Rattle.desk.specs.Lent.{Answers}

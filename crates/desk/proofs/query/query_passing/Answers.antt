@@ -8,9 +8,8 @@ use Rattle.grid.specs.Site.{site}
 use Rattle.grid.proofs.Sites.{site_passed}
 use Rattle.rules.specs.Rules.{Passing}
 use Rattle.listing.specs.Listed.{Listable, Listed}
-use Rattle.refusals.specs.declared.answered.Answered.{Answered}
 use Rattle.refusals.specs.Refusals.{query_gives}
-use Rattle.refusals.specs.Told.{told}
+use Rattle.refusals.specs.Told.{Answered, told}
 use Rattle.refusals.proofs.QueryOrder.{answers_told}
 use Rattle.limits.proofs.CallTests.{three_passed, two_back}
 use Rattle.desk.specs.Lent.{Answers}

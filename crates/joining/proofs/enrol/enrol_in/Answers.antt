@@ -20,7 +20,7 @@ put_next-requires c =
 pub put_points-requires-2 : goal.put_points-requires-2
 put_points-requires-2 c =
     let some = λ (z : points_of c.args.table.now ≡ 0). c.if-points-eq0.false (c.points_of-points.ensures ∙ z) in
-    (c.put_next.auto.table ∙ c.requires.long, omega (arith, c.points_of-points.ensures, enrol_few c.requires some))
+    omega (arith, c.points_of-points.ensures, enrol_few c.requires some)
 
 pub returns : goal.returns
 returns c =

@@ -3,30 +3,22 @@ use Prim.Native.Nat.{◌≤◌, ◌/◌}
 use native.Mathlib.Omega.{arith}
 use mathlib.Core.Path.{◌∙◌}
 use Rattle.table.proofs.Nodes.{full}
-use Rattle.joining.proofs.Settling.{ordered_count, kept_few, rest_few, kept_fits, rest_fits, split_words}
+use Rattle.joining.proofs.Settling.{ordered_count, kept_fits, rest_fits, split_words}
 use Rattle.joining.proofs.enrol.split.Goals as goal
 
 pub first-first-requires : goal.first-first-requires
 first-first-requires c =
-    let halves : (c.args.n.count / 2 ≤ c.lined-all.result.count) × (c.lined-all.result.count ≤ 10) =
-    let e = ordered_count c.requires (full c.args.n c.well_formed.1.1.0) c.lined-all.ensures in
-    omega (arith, e, c.requires.nine) in
-    halves
+    omega (arith, ordered_count c.requires (full c.args.n c.well_formed.1.1.0) c.lined-all.ensures)
 
 pub rest-other-requires : goal.rest-other-requires
 rest-other-requires c =
-    let halves : (c.args.n.count / 2 ≤ c.lined-all.result.count) × (c.lined-all.result.count ≤ 10) =
-    let e = ordered_count c.requires (full c.args.n c.well_formed.1.1.0) c.lined-all.ensures in
-    omega (arith, e, c.requires.nine) in
-    halves
+    omega (arith, ordered_count c.requires (full c.args.n c.well_formed.1.1.0) c.lined-all.ensures)
 
 pub put_node_at-requires : goal.put_node_at-requires
 put_node_at-requires c =
     let o = c.lined-all.ensures in
     let w = full c.args.n c.well_formed.1.1.0 in (
-      c.requires.long,
       c.requires.low,
-      kept_few c.requires w o c.first-first.ensures c.rest-other.ensures,
       kept_fits c.requires w o c.first-first.ensures c.rest-other.ensures,
     )
 
@@ -34,9 +26,7 @@ pub put_node_at-requires-2 : goal.put_node_at-requires-2
 put_node_at-requires-2 c =
     let o = c.lined-all.ensures in
     let w = full c.args.n c.well_formed.1.1.0 in (
-      c.put_node_at.auto.table ∙ c.requires.long,
       omega (arith, c.lowest_free-to.ensures, c.requires.room),
-      rest_few c.requires w o c.first-first.ensures c.rest-other.ensures,
       rest_fits c.requires w o c.first-first.ensures c.rest-other.ensures,
     )
 

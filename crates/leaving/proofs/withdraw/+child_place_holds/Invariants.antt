@@ -14,7 +14,4 @@ abbrev pub decreases-holds : goal.decreases-holds
 decreases-holds l = 2 * l.level
 
 abbrev pub invariant-child_place-loop-i : goal.invariant-child_place-loop-i
-invariant-child_place-loop-i l = (l.i ≤ l.count) × ((k : ℕ) → k < l.i → holds_of l.level l.table (get_or l.n.entries k blank_entry).reference l.number ≡ false)
-
-abbrev pub decreases-child_place-loop-i : goal.decreases-child_place-loop-i
-decreases-child_place-loop-i l = l.count - l.i
+invariant-child_place-loop-i l = (k : ℕ) → k < l.i → holds_of l.level l.table (get_or l.e-items k blank_entry).reference l.number ≡ false

@@ -1,7 +1,12 @@
 -- `leaving::withdraw::lower_root` meets its contract: the number of entries and the level of the root's node decide. Assumes nothing.
-use mathlib.Core.Path.{sym, ap, ◌∙◌}
+use Prim.Native.Nat.{◌<◌}
+use native.Mathlib.Omega.{arith}
+use mathlib.Core.Path.{◌≡◌, sym, ap, ◌∙◌}
 use lib.IntN.{pos, negsuc}
-use Rattle.table.specs.Slots.{freed, with_root}
+use lib.ListN.{get_or}
+use Rattle.table.specs.Page.{blank_entry}
+use Rattle.table.specs.Slots.{entries_at, freed, with_root}
+use Rattle.table.proofs.Nodes.{page_at_lem}
 use Rattle.change.specs.Choose.{entry_in}
 use Rattle.leaving.proofs.WithdrawRoot.{lower_none, lower_leaf, lower_many, lower_one}
 use Rattle.leaving.proofs.withdraw.lower_root.Goals as goal
@@ -30,9 +35,9 @@ pub returns : goal.returns
 returns c =
     let ws = c.args.table.now in
     let n = c.node_at-n in
-    let free = c.free_slot-2 in
-    let at = c.child_at in
-    let put = c.put_root in
-    put.ensures ∙ ap (λ w. with_root w (pos at.result)) free.ensures
-    ∙ ap (λ o. with_root (freed ws c.args.root) (pos o)) (at.ensures ∙ ap (λ es. (entry_in es 0).reference) n.ensures.entries)
+    let at = (get_or n.result.entries 0 blank_entry).reference in
+    let some : 0 < n.result.count = omega (arith, c.if-n-ne1.false) in
+    let first : at ≡ (entry_in (entries_at ws c.args.root) 0).reference = ap (λ e. e.reference) (page_at_lem n.ensures 0 blank_entry some) in
+    c.put_root.ensures ∙ ap (λ w. with_root w (pos at)) c.free_slot-2.ensures
+    ∙ ap (λ o. with_root (freed ws c.args.root) (pos o)) first
     ∙ lower_one ws c.args.root (λ e. c.if-n-eq0-2.false (n.ensures.level ∙ e)) (sym n.ensures.count ∙ c.if-n-ne1.false)

@@ -1,10 +1,8 @@
 -- `leaving::withdraw::share_out` meets its contract: each half of the entries in order is a share, which fits. Assumes nothing.
 use mathlib.Core.Path.{◌≡◌, ap, ◌∙◌}
-use lib.ListN.{length}
 use Rattle.table.specs.Page.{page, held}
 use Rattle.table.specs.Slots.{put_page}
 use Rattle.table.proofs.Nodes.{shown_page}
-use Rattle.table.proofs.Slots.{put_long}
 use Rattle.change.specs.Share.{first_share, other_share}
 use Rattle.leaving.proofs.WithdrawPages.{first_fits, other_fits, first_shows, other_shows, shown_fits}
 use Rattle.leaving.proofs.withdraw.share_out.Goals as goal
@@ -15,24 +13,15 @@ put_node_at-requires c =
     let n = c.lined-all in
     let f = shown_fits (first_shows a.table.now a.c a.d a.joint c.requires n.result n.ensures c.first.result c.first.ensures)
     (first_fits a.table.now a.c a.d a.joint c.requires) in
-    (c.requires.long, c.requires.first, f.0, f.1)
+    (c.requires.first, f)
 
 pub put_node_at-requires-2 : goal.put_node_at-requires-2
 put_node_at-requires-2 c =
     let a = c.args in
     let n = c.lined-all in
-    let put = c.put_node_at in
-    let low = c.first in
-    let e = shown_page (first_shows a.table.now a.c a.d a.joint c.requires n.result n.ensures low.result low.ensures) in
-    let p = page a.joint.level (first_share (held a.joint)) in
-    let g = first_fits a.table.now a.c a.d a.joint c.requires in
     let f = shown_fits (other_shows a.table.now a.c a.d a.joint c.requires n.result n.ensures c.rest.result c.rest.ensures)
-    (other_fits a.table.now a.c a.d a.joint c.requires) in (
-      ap length (put.ensures ∙ ap (put_page a.table.now a.c) e) ∙ put_long a.table.now a.c p c.requires.long c.requires.first g.few ∙ c.requires.long,
-      c.requires.other,
-      f.0,
-      f.1,
-    )
+    (other_fits a.table.now a.c a.d a.joint c.requires) in
+    (c.requires.other, f)
 
 pub returns : goal.returns
 returns c =

@@ -2,16 +2,15 @@
 use Prim.Native.Nat.{◌<◌}
 use mathlib.Core.Path.{sym, ap, subst, ◌∙◌}
 use native.Mathlib.Omega.{arith}
-use lib.ListN.{length}
 use Rattle.figures.specs.Figures.{SLOTS}
 use Rattle.table.specs.Slots.{level_at}
 use Rattle.leaving.specs.Withdraw.{Removable, Lowerable}
-use Rattle.leaving.proofs.WithdrawRoot.{may_inside, may_removable, may_lowerable, may_points, lowered_long, removed_is, withdrawn_is_done}
+use Rattle.leaving.proofs.WithdrawRoot.{may_inside, may_removable, may_lowerable, may_points, removed_is, withdrawn_is_done}
 use Rattle.leaving.proofs.withdraw.withdraw_in.Goals as goal
 
 pub level_at-level-requires : goal.level_at-level-requires
 level_at-level-requires c =
-    (c.requires.long, subst (λ o. o < SLOTS) (sym c.root_of-root.ensures) (may_inside c.args.table.now c.args.number c.requires))
+    subst (λ o. o < SLOTS) (sym c.root_of-root.ensures) (may_inside c.args.table.now c.args.number c.requires)
 
 pub remove-requires : goal.remove-requires
 remove-requires c =
@@ -34,17 +33,7 @@ pub overflow_sub-points : goal.overflow_sub-points
 overflow_sub-points c = omega (arith, c.points_of-points.ensures, may_points c.args.table.now c.args.number c.requires)
 
 pub put_points-requires : goal.put_points-requires
-put_points-requires c =
-    let ws = c.args.table.now in
-    let root = c.root_of-root in
-    let level = c.level_at-level in
-    let after = c.remove in
-    let low : Lowerable after.new.table root.result =
-    subst (Lowerable after.new.table) (sym root.ensures)
-    (may_lowerable ws c.args.number c.requires after.new.table (removed_is ws c.args.number root.result level.result after.new.table root.ensures level.ensures after.ensures)) in (
-      ap length c.lower_root.ensures ∙ lowered_long after.new.table root.result low,
-      omega (arith, c.points_of-points.ensures, may_points ws c.args.number c.requires),
-    )
+put_points-requires c = omega (arith, c.points_of-points.ensures, may_points c.args.table.now c.args.number c.requires)
 
 pub returns : goal.returns
 returns c =

@@ -1,5 +1,5 @@
 -- `naming::down::offer_below` meets its contract, by recursion on the level. The loop's invariant: the row has the best of the points below the first `i` children, nearest first. Assumes nothing.
-use Prim.Native.Nat.{ℕ, ◌-◌, ◌≤◌}
+use Prim.Native.Nat.{ℕ, ◌-◌}
 use mathlib.Core.List.{List}
 use Rattle.table.specs.declared.node.Entry.{Entry}
 use Rattle.table.specs.Words.{Words}
@@ -13,13 +13,9 @@ use Rattle.naming.proofs.down.+offer_below.Given as goal
 abbrev pub under : Words → ℕ → Entry → List Entry
 under ws level e = below (level - 1) ws e.reference
 
-abbrev pub invariant-loop-i : goal.invariant-loop-i
-invariant-loop-i l =
-    (l.i ≤ l.count)
-    × SoFar l.number l.p (under l.table l.level) (nearest_first l.p 0 (entries_at l.table l.slot)) l.initial.best l.i l.best
-
-abbrev pub decreases-loop-i : goal.decreases-loop-i
-decreases-loop-i l = l.count - l.i
+abbrev pub invariant-loop-at : goal.invariant-loop-at
+invariant-loop-at l =
+    SoFar l.holder.number l.holder.place (under l.table l.level) (nearest_first l.holder.place 0 (entries_at l.table l.slot)) l.initial.best l.at-index l.best
 
 abbrev pub decreases-offer_below : goal.decreases-offer_below
 decreases-offer_below l = l.level

@@ -1,5 +1,4 @@
 -- `naming::down::offer_leaf` meets its contract. The loop's invariant: the row has the best of the first `i` points. Assumes nothing.
-use Prim.Native.Nat.{◌-◌, ◌≤◌}
 use mathlib.Core.List.{List, [], ◌∷◌}
 use Rattle.table.specs.declared.node.Entry.{Entry}
 use Rattle.table.specs.Slots.{entries_at}
@@ -10,7 +9,4 @@ abbrev pub alone : Entry → List Entry
 alone e = e ∷ []
 
 abbrev pub invariant-loop-i : goal.invariant-loop-i
-invariant-loop-i l = (l.i ≤ l.count) × SoFar l.number l.p alone (entries_at l.table l.slot) l.initial.best l.i l.best
-
-abbrev pub decreases-loop-i : goal.decreases-loop-i
-decreases-loop-i l = l.count - l.i
+invariant-loop-i l = SoFar l.holder.number l.holder.place alone (entries_at l.table l.slot) l.initial.best l.i l.best

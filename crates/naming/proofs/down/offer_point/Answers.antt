@@ -4,7 +4,8 @@ use native.Mathlib.Omega.{arith}
 use mathlib.Core.Path.{refl, sym, ap, ◌∙◌}
 use mathlib.Core.List.{List, ◌∷◌, ◌++◌}
 use lib.ListN.{length}
-use Rattle.grid.specs.Place.{PlaceOnGrid}
+use Rattle.grid.specs.declared.place.Place.{Place}
+use Rattle.grid.specs.Place.{PlaceOnGrid, dist²}
 use Rattle.grid.proofs.Rects.{dist_most}
 use Rattle.order.specs.Order.{least}
 use Rattle.order.proofs.Least.{least_row}
@@ -14,17 +15,17 @@ use Rattle.naming.specs.Holders.{mark_of}
 use Rattle.naming.proofs.Marking.{marks_itself, marks_other}
 use Rattle.naming.proofs.down.offer_point.Goals as goal
 
-pub returns-then-other-number : goal.returns-then-other-number
-returns-then-other-number c =
+pub returns-then-other-holder : goal.returns-then-other-holder
+returns-then-other-holder c =
     let row = c.args.best.now in
     least_row (length row) row refl c.requires.3
-    ∙ ap (λ (ms : List ℕ). least (length row) (ms ++ row)) (sym (marks_itself c.args.number c.args.p c.args.e c.if-other-number.true))
+    ∙ ap (λ (ms : List ℕ). least (length row) (ms ++ row)) (sym (marks_itself c.args.holder.number c.args.holder.place c.args.e c.if-other-holder.true))
 
 pub mark_of-requires : goal.mark_of-requires
 mark_of-requires c =
     let spot_grid : PlaceOnGrid (spot_in c.args.e) =
     let g = point c.args.e c.requires.0 in record { x = g.x.grid; y = g.y.grid } in (
-      omega (arith, c.square_to.ensures, dist_most (spot_grid) c.requires.1),
+      omega (arith, c.square_to.ensures, ap (λ (s : Place). dist² s c.args.holder.place) c.spot_in.ensures, dist_most (spot_grid) c.requires.1),
       omega (arith, (point c.args.e c.requires.0).most),
     )
 
@@ -32,5 +33,5 @@ pub returns : goal.returns
 returns c =
     let row = c.args.best.now in
     c.offer.ensures
-    ∙ ap (λ (mark : ℕ). least (length row) (mark ∷ row)) (c.mark_of.ensures ∙ ap (λ (d : ℕ). mark_of d c.args.e.reference) c.square_to.ensures)
-    ∙ ap (λ (ms : List ℕ). least (length row) (ms ++ row)) (sym (marks_other c.args.number c.args.p c.args.e c.if-other-number.false))
+    ∙ ap (λ (mark : ℕ). least (length row) (mark ∷ row)) (c.mark_of.ensures ∙ ap (λ (d : ℕ). mark_of d c.args.e.reference) (c.square_to.ensures ∙ ap (λ (s : Place). dist² s c.args.holder.place) c.spot_in.ensures))
+    ∙ ap (λ (ms : List ℕ). least (length row) (ms ++ row)) (sym (marks_other c.args.holder.number c.args.holder.place c.args.e c.if-other-holder.false))

@@ -6,11 +6,10 @@ use Rattle.order.specs.Order.{NONE}
 use Rattle.order.proofs.Lists.{one_most, count_more}
 use Rattle.naming.proofs.names.names_in.Goals as goal
 
-pub loop-i-preserved : goal.loop-i-preserved
-loop-i-preserved c =
+pub loop-mark-preserved : goal.loop-mark-preserved
+loop-mark-preserved c =
     let best = c.args.best.now in
-    let i = c.loop-i.i in (
-      omega arith,
+    let i = c.loop-mark.mark-index in (
       omega (arith, c.one-n.ensures, one_most (ltb (get_or best i 0) NONE)),
       omega (arith, c.one-n.ensures, count_more (λ m. ltb m NONE) best i 0 (omega arith)),
     )

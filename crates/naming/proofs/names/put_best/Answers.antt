@@ -1,7 +1,7 @@
 -- `naming::names::put_best` meets its contract: the best below the root are the card. Assumes nothing.
 use Prim.Native.Nat.{ℕ}
 use native.Mathlib.Omega.{arith}
-use mathlib.Core.Path.{◌≡◌, refl, ap, ◌∙◌}
+use mathlib.Core.Path.{◌≡◌, refl, sym, ap, ◌∙◌}
 use mathlib.Core.List.{List, ◌++◌}
 use lib.ListN.{length, replicate}
 use Rattle.order.specs.Order.{least, NONE}
@@ -11,7 +11,7 @@ use Rattle.filter.proofs.Opening.{root_passable}
 use Rattle.vetting.specs.Test.{below}
 use Rattle.vetting.proofs.Below.{root_boxed}
 use Rattle.naming.specs.Holders.{marks_of}
-use Rattle.naming.proofs.CardNames.{blank_rises, not_empty, stands_grid, names_few, named_laid, named_left}
+use Rattle.naming.proofs.CardNames.{blank_rises, not_empty, stands_grid, holders_few, holders_length, named_laid, named_left}
 use Rattle.naming.proofs.names.put_best.Goals as goal
 use Rattle.naming.proofs.names.put_best.Goals.{After-offer_below}
 
@@ -19,12 +19,12 @@ use Rattle.naming.proofs.names.put_best.Goals.{After-offer_below}
 best_is : (c : After-offer_below)
     → let a = c.args in
     let k = length a.best.now in
-    c.offer_below.new.best ≡ least k (marks_of a.number a.p (below c.level_at-level.result a.table.now c.root_of-root.result) ++ replicate k NONE)
+    c.offer_below.new.best ≡ least k (marks_of a.holder.number a.holder.place (below c.level_at-level.result a.table.now c.root_of-root.result) ++ replicate k NONE)
 best_is c =
     let a = c.args in
     let k = length a.best.now in
     c.offer_below.ensures
-    ∙ ap (λ (l : List ℕ). least k (marks_of a.number a.p (below c.level_at-level.result a.table.now c.root_of-root.result) ++ l)) c.requires.1
+    ∙ ap (λ (l : List ℕ). least k (marks_of a.holder.number a.holder.place (below c.level_at-level.result a.table.now c.root_of-root.result) ++ l)) c.requires.1
 
 pub level_at-level-requires : goal.level_at-level-requires
 level_at-level-requires c =
@@ -33,40 +33,40 @@ level_at-level-requires c =
     let t = c.requires.0.table in
     let root = c.root_of-root.result in
     -- the table is not empty: it has the station
-    let some = not_empty ws t a.number a.p c.requires.0.station in
-    (t.long, passable_slot (level_at ws root) ws root (root_passable ws t.long t.words t.rules some root _ c.root_of-root.ensures refl))
+    let some = not_empty ws t a.holder.number a.holder.place c.requires.0.station in
+    passable_slot (level_at ws root) ws root (root_passable ws t.long t.words t.rules some root _ c.root_of-root.ensures refl)
 
-pub offer_below-requires-clause-table_len : goal.offer_below-requires-clause-table_len
-offer_below-requires-clause-table_len c =
+pub offer_below-requires-clause-passable : goal.offer_below-requires-clause-passable
+offer_below-requires-clause-passable c =
     let a = c.args in
     let ws = a.table.now in
     let t = c.requires.0.table in
-    let some = not_empty ws t a.number a.p c.requires.0.station in (
-      t.long,
-      stands_grid ws t a.number a.p c.requires.0.station,
+    let some = not_empty ws t a.holder.number a.holder.place c.requires.0.station in (
+      stands_grid ws t a.holder.number a.holder.place c.requires.0.station,
       root_passable ws t.long t.words t.rules some _ _ c.root_of-root.ensures c.level_at-level.ensures,
       root_boxed ws t.long t.words t.rules some _ _ c.root_of-root.ensures c.level_at-level.ensures,
     )
 
-pub offer_below-requires-clause-best_nonzero : goal.offer_below-requires-clause-best_nonzero
-offer_below-requires-clause-best_nonzero c = (omega (arith, c.requires.0.some), rw c.requires.1 (blank_rises (length c.args.best.now)))
+pub offer_below-requires-clause-best : goal.offer_below-requires-clause-best
+offer_below-requires-clause-best c = (omega (arith, c.requires.0.some), rw c.requires.1 (blank_rises (length c.args.best.now)))
+
+pub slice_bounds-put_names-end : goal.slice_bounds-put_names-end
+slice_bounds-put_names-end c = holders_few _ c.names_in-n.ensures
+
+pub slice_bounds-put_names-end-then-n-list : goal.slice_bounds-put_names-end-then-n-list
+slice_bounds-put_names-end-then-n-list c = sym (holders_length _ c.names_in-n.ensures)
 
 pub put_names-requires : goal.put_names-requires
-put_names-requires c =
-    let a = c.args in (
-      names_few a.table.now c.requires.0.table a.number a.p c.requires.0.station (length a.best.now) _ _ c.root_of-root.ensures c.level_at-level.ensures _
-          (best_is (goal.at.put_names-requires c).After-offer_below) _ c.names_in-n.ensures a.list.now,
-      c.if-n-list.true,
-    )
+put_names-requires c = omega (arith, holders_length _ c.names_in-n.ensures, c.if-n-list.true)
 
 pub returns-then-n-list : goal.returns-then-n-list
 returns-then-n-list c =
     let a = c.args in
-    named_laid a.table.now c.requires.0.table a.number a.p c.requires.0.station (length a.best.now) _ _ c.root_of-root.ensures c.level_at-level.ensures _
+    named_laid a.table.now c.requires.0.table a.holder.number a.holder.place c.requires.0.station (length a.best.now) _ _ c.root_of-root.ensures c.level_at-level.ensures _
     (best_is (goal.at.returns-then-n-list c).After-offer_below) _ c.names_in-n.ensures a.list.now c.if-n-list.true _ c.put_names.ensures
 
 pub returns-else-n-list : goal.returns-else-n-list
 returns-else-n-list c =
     let a = c.args in
-    named_left a.table.now c.requires.0.table a.number a.p c.requires.0.station (length a.best.now) _ _ c.root_of-root.ensures c.level_at-level.ensures _
+    named_left a.table.now c.requires.0.table a.holder.number a.holder.place c.requires.0.station (length a.best.now) _ _ c.root_of-root.ensures c.level_at-level.ensures _
     (best_is (goal.at.returns-else-n-list c).After-offer_below) _ c.names_in-n.ensures a.list.now (omega (arith, c.if-n-list.false))
