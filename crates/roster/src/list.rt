@@ -37,6 +37,7 @@ fn lay_list(file: &[u8], lines: &mut Slip<'_>, reports: &mut Slip<'_>)
     // The header is record 0.
     let mut at = next_at(file, 0, Mark::LineEnd);
     let mut number: u64 = 1;
+    // Kept: a while, since it jumps from record to record; a for is no plainer, as no range has those places.
     while at < file.len() {
         put_record(part_at(file, at, Mark::LineEnd), number, lines, reports);
         at = next_at(file, at, Mark::LineEnd);
