@@ -1,7 +1,7 @@
 -- What the parts of a query are called with, and what they leave: the rows hold the candidates found, those that pass are the answers of the definition, and the records of the rows are those of the candidates. Assumes nothing.
 use Prim.Native.Nat.{ℕ, ◌≤◌, ◌<◌}
 use native.Mathlib.Omega.{arith}
-use mathlib.Core.Path.{◌≡◌, sym, ap, subst, ◌∙◌}
+use mathlib.Core.Path.{◌≡◌, sym, ap, ◌∙◌}
 use mathlib.Core.Bool.{true, false, cond, ◌&&◌}
 use mathlib.Core.List.{List, map, map-map}
 use lib.Dec.{leb, eqb}
@@ -102,7 +102,7 @@ module _ {ws : Words} (t : Passing ws) where
       seen_back : listed p after s.candidates ≡ cs
       seen_back = ap (listed p after) n.candidates ∙ rows_back room n.rows
 
-      keepable : (free : ℕ) → points_of ws ≤ free → Keepable ws p after k s.candidates free
+      pub keepable : (free : ℕ) → points_of ws ≤ free → Keepable ws p after k s.candidates free
       keepable free h = record {
         table = t;
         grid = place_grid g;
@@ -111,6 +111,7 @@ module _ {ws : Words} (t : Passing ws) where
         places = omega (arith, n.candidates, few);
       }
 
+      -- the numbers of those that pass, the first that stand in `kept`
       abbrev passing : List ℕ
       passing = numbers_passing ws p k (listed p after s.candidates)
 
@@ -118,55 +119,31 @@ module _ {ws : Words} (t : Passing ws) where
       passing_answers = ap (λ (es : List Entry). rising (numbers_passing ws p k es)) seen_back ∙ passing_right
 
       module _ (m : ℕ) (kept spare : List ℕ) (counted : m ≡ length passing) (laid : kept ≡ laid_over passing spare) where
-        kept_room : m ≤ length kept
+        pub kept_room : m ≤ length kept
         kept_room = omega (arith, counted, ap length laid, length-append passing (drop (length passing) spare))
 
-        passed : rising (take m kept) ≡ answers_found ws q k
-        passed = ap (λ (l : List ℕ). rising (take m l)) laid ∙ ap rising (take_at passing _ m (sym counted)) ∙ passing_answers
+        taken : take m kept ≡ passing
+        taken = ap (take m) laid ∙ take_at passing _ m (sym counted)
 
-        answers_many : m ≡ length (answers_found ws q k)
-        answers_many = counted ∙ sym (rising_length passing) ∙ ap length passing_answers
+        answers_many : length (take m kept) ≡ length (answers_found ws q k)
+        answers_many = ap length taken ∙ sym (rising_length passing) ∙ ap length passing_answers
 
         written : record { noted = after; kept = kept } ≡ slate_after ws q k (record { noted = before; kept = spare })
         unfolding slate_after
         written = slate_ext n.rows (laid ∙ ap (λ (es : List Entry). laid_over (numbers_passing ws p k es) spare) seen_back)
 
-        replies : (old new : List ℕ) → new ≡ cond (leb m (length old)) (laid_over (rising (take m kept)) old) old
-            → Replied ws q k (record { noted = before; kept = spare }) (record { noted = after; kept = kept }) old new (record { n = m; m = s.candidates; o = s.opened })
-        replies old new e = record {
-          n = answers_many;
-          m = n.candidates;
-          o = n.opened;
-          slate = written;
-          answers = e ∙ ap (λ (l : List ℕ). cond (leb m (length old)) (laid_over l old) old) passed ∙ ap (λ (i : ℕ). cond (leb i (length old)) (laid_over (answers_found ws q k) old) old) answers_many;
-        }
-
-    -- ---- the parts as they are called: the words of q as a callee gets them, its place as a callee gave it
-
-    module _ {before after : Rows} {s : Seen} (room : Room (points_of ws) before) {z : Site} (same : z ≡ q) (n : Noted (place_of z) (found ws z k) before after s) where
-      noted_so : Noted p (found ws q k) before after s
-      noted_so = subst (λ (o : Site). Noted (place_of o) (found ws o k) before after s) same n
-
-      module _ {o : Place} (place : o ≡ place_of z) where
-        place_so : o ≡ p
-        place_so = place ∙ ap place_of same
-
-        pub keepable_so : (free : ℕ) → points_of ws ≤ free → Keepable ws o after k s.candidates free
-        keepable_so free h = subst (λ (o : Place). Keepable ws o after k s.candidates free) (sym place_so) (keepable room noted_so free h)
-
-        module _ (m : ℕ) (kept spare : List ℕ) (counted : m ≡ length (numbers_passing ws o k (listed o after s.candidates))) (laid : kept ≡ laid_over (numbers_passing ws o k (listed o after s.candidates)) spare) where
-          counted_so : m ≡ length (numbers_passing ws p k (listed p after s.candidates))
-          counted_so = subst (λ (o : Place). m ≡ length (numbers_passing ws o k (listed o after s.candidates))) place_so counted
-
-          laid_so : kept ≡ laid_over (numbers_passing ws p k (listed p after s.candidates)) spare
-          laid_so = subst (λ (o : Place). kept ≡ laid_over (numbers_passing ws o k (listed o after s.candidates)) spare) place_so laid
-
-          pub kept_room_so : m ≤ length kept
-          kept_room_so = kept_room room noted_so m kept spare counted_so laid_so
-
-          pub replies_so : {old new : List ℕ} {r : Reply} → r ≡ record { n = m; m = s.candidates; o = s.opened }
-              → new ≡ cond (leb m (length old)) (laid_over (rising (take m kept)) old) old
-              → Replied ws q k (record { noted = before; kept = spare }) (record { noted = after; kept = kept }) old new r
-          replies_so {old} {new} e f =
-              subst (Replied ws q k (record { noted = before; kept = spare }) (record { noted = after; kept = kept }) old new) (sym e)
-              (replies room noted_so m kept spare counted_so laid_so old new f)
+        pub replies : {old new : List ℕ} {r : Reply} → r ≡ record { n = length (take m kept); m = s.candidates; o = s.opened }
+            → new ≡ cond (leb (length (take m kept)) (length old)) (laid_over (rising (take m kept)) old) old
+            → Replied ws q k (record { noted = before; kept = spare }) (record { noted = after; kept = kept }) old new r
+        replies {old} e f =
+            rw e
+            (record {
+              n = answers_many;
+              m = n.candidates;
+              o = n.opened;
+              slate = written;
+              answers = f
+                  ∙ ap (λ (l : List ℕ). cond (leb (length (take m kept)) (length old)) (laid_over (rising l) old) old) taken
+                  ∙ ap (λ (l : List ℕ). cond (leb (length (take m kept)) (length old)) (laid_over l old) old) passing_answers
+                  ∙ ap (λ (i : ℕ). cond (leb i (length old)) (laid_over (answers_found ws q k) old) old) answers_many;
+            })

@@ -28,5 +28,3 @@ pub record Replied (ws : Words) (q : Site) (k : ℕ) (before after : Slate) (old
   -- the slate gets the candidates, and the numbers of those that pass
   pub slate : after ≡ slate_after ws q k before
   pub answers : new ≡ answers_in ws q k old
-
--- what a query that lists its candidates leaves

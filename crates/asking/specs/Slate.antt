@@ -1,11 +1,12 @@
 -- What a query writes on, lent by who asks many of them: the rows of its walk, and the numbers of the candidates that pass its final test.
-use Rattle.std.specs.Prelude.{ℕ, ◌≤◌, List, length}
+use Rattle.std.specs.Prelude.{ℕ, ◌≤◌, ◌≡◌, List, length}
 use Rattle.grid.specs.declared.site.Site.{Site}
 use Rattle.grid.specs.Site.{place_of}
 use Rattle.table.specs.Words.{Words}
 use Rattle.filter.specs.Query.{found, laid_over}
-use Rattle.filter.specs.Rows.{Rows, rows, laid_in, Room}
+use Rattle.filter.specs.Rows.{Rows, rows, rows_of, laid_in, Room, SameLent}
 use Rattle.vetting.specs.Tested.{numbers_passing}
+use Rattle.asking.specs.declared.slate.Slate.{Slate as Lent}
 
 pub record Slate : Type 0 where
   pub noted : Rows
@@ -13,6 +14,15 @@ pub record Slate : Type 0 where
 
 abbrev pub slate : (numbers xs ys bars kept : List ℕ) → Slate
 slate numbers xs ys bars kept = record { noted = rows numbers xs ys bars; kept = kept }
+
+-- what the code's slate holds
+abbrev pub slate_of : Lent → Slate
+slate_of s = record { noted = rows_of s.rows; kept = s.kept.now }
+
+-- the code's slate is still the one that was lent
+pub record SameSlate (before after : Lent) : Type 0 where
+  pub rows : SameLent before.rows after.rows
+  pub kept : after.kept.ghost_name ≡ before.kept.ghost_name
 
 -- n candidates have room on it
 pub record Wide (n : ℕ) (s : Slate) : Type 0 where

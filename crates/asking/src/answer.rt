@@ -1,13 +1,16 @@
 // A query on a well-formed table, for the answers alone: it writes on rows that are lent to it.
-ghost use Rattle.std.specs.Prelude.{◌≡◌, cond, ◌≤◌, leb, length, take};
+ghost use Rattle.std.specs.Prelude.{◌≡◌, cond, leb, length};
 ghost use Rattle.filter.specs.Meaning.{rising};
 ghost use Rattle.filter.specs.Query.{laid_over};
-ghost use Rattle.asking.specs.Slate.{slate};
+ghost use Rattle.asking.specs.Slate.{slate_of, SameSlate};
 ghost use Rattle.asking.specs.Asked.{Askable, Replied};
 
+use crate::slate::Slate;
+use figures::Words;
 use filter::find::find;
 use filter::seen::Seen;
-use filter::site::place_of;
+use grid::place::Place;
+use grid::site::Site;
 use vetting::answering::put_rising;
 use vetting::keep::keep_passing;
 
@@ -19,43 +22,29 @@ pub struct Reply {
     pub o: usize,
 }
 
-// The n numbers kept go in rising order to the answer list; a list that is shorter than n stays as it was.
-fn put_answers(seen: Seen, n: usize, kept: &[u32], answers: &mut [u32]) -> Reply
-    requires { n ≤ length kept.now }
-    ensures { (result ≡ record { n = n; m = seen.candidates; o = seen.opened })
-        × (answers.new ≡ cond (leb n (length answers.old)) (laid_over (rising (take n kept.now)) answers.old) answers.old) }
+// The numbers kept go in rising order to the answer list; a list that is shorter stays as it was.
+fn put_answers(seen: Seen, kept: &[u32], answers: &mut [u32]) -> Reply
+    ensures reply { result ≡ record { n = length kept.now; m = seen.candidates; o = seen.opened } }
+    ensures list { answers.new ≡ cond (leb (length kept.now) (length answers.old)) (laid_over (rising kept.now) answers.old) answers.old }
 {
-    let m = seen.candidates;
-    let o = seen.opened;
-    let reply = Reply { n, m, o };
-    if answers.len() < n {
-        return reply;
+    if kept.len() <= answers.len() {
+        put_rising(kept, answers);
     }
-    put_rising(kept, n, answers);
-    reply
+    Reply {
+        n: kept.len(),
+        m: seen.candidates,
+        o: seen.opened,
+    }
 }
 
-// The walk notes the candidates in the four rows, and the final test reads them there; the numbers of those that pass stand in `kept` before they go to the answer list.
-pub fn answer(
-    table: &[i32],
-    x: i32,
-    y: i32,
-    k: usize,
-    numbers: &mut [u32],
-    xs: &mut [u64],
-    ys: &mut [u64],
-    bars: &mut [u64],
-    kept: &mut [u32],
-    answers: &mut [u32],
-) -> Reply
-    requires { Askable table.now (record { x = x; y = y }) (slate numbers.old xs.old ys.old bars.old kept.old) }
-    ensures { Replied table.now (record { x = x; y = y }) k
-        (slate numbers.old xs.old ys.old bars.old kept.old)
-        (slate numbers.new xs.new ys.new bars.new kept.new)
-        answers.old answers.new result }
+// The walk notes the candidates in the rows of the slate, and the final test reads them there; the numbers of those that pass are kept beside them before they go to the answer list.
+pub fn answer(table: &Words, q: Site, k: usize, slate: &mut Slate<'_>, answers: &mut [u32]) -> Reply
+    requires { Askable table.now q (slate_of slate.old) }
+    ensures replied { Replied table.now q k (slate_of slate.old) (slate_of slate.new) answers.old answers.new result }
+    ensures lent { SameSlate slate.old slate.new }
 {
-    let seen = find(table, x, y, k, numbers, xs, ys, bars);
-    let q = place_of(x, y);
-    let n = keep_passing(table, numbers, xs, ys, bars, seen.candidates, q, k, kept);
-    put_answers(seen, n, kept, answers)
+    let seen = find(table, q, k, &mut slate.rows);
+    let place = Place::from(q);
+    let n = keep_passing(table, &slate.rows, seen.candidates, place, k, slate.kept);
+    put_answers(seen, slate.kept(n), answers)
 }

@@ -4,3 +4,4 @@
 #![tactic(auto)]
 
 pub mod answer;
+pub mod slate;

@@ -25,9 +25,7 @@ pub fn rule1_at(table: &Words, slot: usize) -> bool
     requires { slot < SLOTS }
     ensures { result ≡ rule1 table.now slot }
 {
-    let a = 2 + Table::WIDTH * slot;
-    let e = a + Table::WIDTH;
-    let words = &table[a..e];
+    let words = slot::part_of(table, slot);
     if part::is_free_part(words) {
         return zeros_from(words, 1);
     }
@@ -57,11 +55,11 @@ pub fn rule3_at(table: &Words, slot: usize) -> bool
     if slot::is_free(table, slot) {
         return true;
     }
-    let start = 2 + Table::WIDTH * slot;
-    if border::steps_at(table, start) < ZERO {
+    let words = slot::part_of(table, slot);
+    if border::steps_at(words, 0) < ZERO {
         return false;
     }
-    let said = border::natural_at(table, start + 1);
+    let said = border::natural_at(words, 1);
     if said < least_fill(table, slot) {
         return false;
     }

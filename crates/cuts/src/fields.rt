@@ -22,6 +22,7 @@ pub fn field_count(item: &[u8]) -> usize
 {
     let mut n = 1;
     let mut stop = stop_at(item, 0, Mark::Comma);
+    // Kept: a while, since it jumps from comma to comma; a for is no plainer, as no range has those places.
     while stop < item.len() {
         n += 1;
         stop = stop_at(item, stop + 1, Mark::Comma);

@@ -13,14 +13,13 @@ pub(crate) fn put_cards(table: &[i32], numbers: &[i32], k: i32, cards: &mut [u32
     requires { Passes table.now }
     ensures { cards.new ≡ cards_over table.now k numbers.now cards.old }
 {
-    let mut i = 0;
+    // Kept: a stretch by its place, not chunks_exact_mut: after that borrow the proof knows the row's length and not what stands in it (proof).
     let mut at = 0;
-    while i < numbers.len() {
+    for number in numbers {
         if cards.len() - at < PLACES {
             return;
         }
-        card_passing(table, numbers[i], k, &mut cards[at..at + PLACES]);
-        i += 1;
+        card_passing(table, *number, k, &mut cards[at..at + PLACES]);
         at += PLACES;
     }
 }

@@ -8,6 +8,7 @@ ghost use Rattle.table.specs.Given.{number_given};
 ghost use Rattle.audit.specs.Check.{check_gives};
 ghost use Rattle.refusals.specs.Refusals.{enrol_gives, withdraw_gives};
 ghost use Rattle.desk.specs.Calls.{after_enrol, after_withdraw};
+ghost use Rattle.export.specs.Front.{front_laid};
 ghost use Rattle.export.specs.Where.{fault_laid};
 ghost use Rattle.export.specs.Told.{counts_laid, Told};
 ghost use Rattle.export.specs.Cards.{names_laid, ToldCard, cards_after};
@@ -20,17 +21,21 @@ use record::Candidate;
 use refusals::answered::Answered;
 use refusals::carding::Carded;
 use table::given::{Given, number_given, rule_given, slot_given};
-use words::border;
 
-// The rule and the slot of an answer go to the front of the lent row: 0 and 0 with any answer but 2. A row of fewer than two places stays as it was.
+// The values go to the front of the lent row; a row of fewer places stays as it was.
+fn lay<T: Copy, const N: usize>(values: [T; N], row: &mut [T])
+    ensures { row.new ≡ front_laid values row.old }
+{
+    if let Some(front) = row.first_chunk_mut::<N>() {
+        *front = values;
+    }
+}
+
+// Where a table is bad, by the rule and the slot of an answer: 0 and 0 with any answer but 2.
 fn told_where(given: Given, fault: &mut [i32])
     ensures { fault.new ≡ fault_laid given fault.old }
 {
-    if fault.len() < 2 {
-        return;
-    }
-    border::put_natural(fault, 0, rule_given(given) as usize);
-    fault[1] = slot_given(given);
+    lay([i32::from(rule_given(given)), slot_given(given)], fault);
 }
 
 // The table check.
@@ -74,21 +79,15 @@ pub extern "C" fn ullagreth_withdraw(table: &mut [i32], number: i32, fault: &mut
     number_given(given)
 }
 
-// The number of what a query hands back, and where the table is bad. The counts n, m, o go to the front of the lent row; a row of fewer than three places stays as it was.
+// The number of what a query hands back, where the table is bad, and the counts n, m and o.
 fn told(a: Answered, counts: &mut [u64], fault: &mut [i32]) -> u8
     ensures given { result ≡ number_given a.given }
     ensures counts { counts.new ≡ counts_laid (record { n = a.n; m = a.m; o = a.o }) counts.old }
     ensures fault { fault.new ≡ fault_laid a.given fault.old }
 {
-    let given = a.given;
-    told_where(given, fault);
-    if counts.len() < 3 {
-        return number_given(given);
-    }
-    counts[0] = a.n as u64;
-    counts[1] = a.m as u64;
-    counts[2] = a.o as u64;
-    number_given(given)
+    told_where(a.given, fault);
+    lay([a.n as u64, a.m as u64, a.o as u64], counts);
+    number_given(a.given)
 }
 
 // Answers a query: candidates to the candidate list, answers to the answer list, n, m and o to the counts.
@@ -133,19 +132,15 @@ pub extern "C" fn ullagreth_sites(
     number_given(given)
 }
 
-// The number of what a card hands back, and where the table is bad. How many names it has goes to the front of the lent row; a row of no places stays as it was.
+// The number of what a card hands back, where the table is bad, and how many names it has.
 fn told_card(c: Carded, names: &mut [u64], fault: &mut [i32]) -> u8
     ensures given { result ≡ number_given c.given }
     ensures names { names.new ≡ names_laid c.names names.old }
     ensures fault { fault.new ≡ fault_laid c.given fault.old }
 {
-    let given = c.given;
-    told_where(given, fault);
-    if names.len() < 1 {
-        return number_given(given);
-    }
-    names[0] = c.names as u64;
-    number_given(given)
+    told_where(c.given, fault);
+    lay([c.names as u64], names);
+    number_given(c.given)
 }
 
 // The card of the station with a number: its names to the list, in card order, and how many they are to the row.

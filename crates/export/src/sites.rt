@@ -1,5 +1,5 @@
 // How many answers each of many places has, on a table that passes the check: who asks for many pays for one check.
-ghost use Rattle.std.specs.Prelude.{◌≡◌, min, length};
+ghost use Rattle.std.specs.Prelude.{◌≡◌, length};
 ghost use Rattle.grid.specs.Site.{site};
 ghost use Rattle.figures.specs.Figures.{MOST};
 ghost use Rattle.rules.specs.Rules.{Passes};
@@ -34,18 +34,12 @@ fn count_at(
     told.n as u32
 }
 
-fn lesser(a: usize, b: usize) -> usize
-    ensures { result ≡ min a b }
-{
-    if a < b { a } else { b }
-}
-
 // The counts of the places, one after the other, until a list or the row of counts ends.
 pub(crate) fn count_all(table: &[i32], xs: &[i32], ys: &[i32], k: i32, counts: &mut [u32])
     requires { Passes table.now }
     ensures { counts.new ≡ counts_over table.now k xs.now ys.now counts.old }
 {
-    let n = lesser(lesser(xs.len(), ys.len()), counts.len());
+    let n = xs.len().min(ys.len()).min(counts.len());
     // The rows that the queries write on, made once for all places.
     let mut numbers = [0u32; Table::MOST];
     let mut across = [0u64; Table::MOST];
@@ -53,8 +47,7 @@ pub(crate) fn count_all(table: &[i32], xs: &[i32], ys: &[i32], k: i32, counts: &
     let mut bars = [0u64; Table::MOST];
     let mut kept = [0u32; Table::MOST];
     let mut answers = [0u32; Table::MOST];
-    let mut i = 0;
-    while i < n {
+    for i in 0..n {
         counts[i] = count_at(
             table,
             xs[i],
@@ -67,6 +60,5 @@ pub(crate) fn count_all(table: &[i32], xs: &[i32], ys: &[i32], k: i32, counts: &
             &mut kept,
             &mut answers,
         );
-        i += 1;
     }
 }

@@ -9,7 +9,7 @@ use native.Mathlib.Numerals.{add-one}
 use Rattle.std.specs.List.{list_all}
 use lib.Dec.{leb, eqb}
 use lib.IntN.{ℤ, pos, neg_ℤ, ◌-ℤ◌, +ℤ_idl}
-use lib.ListN.{length, take, drop, get_or, drop_of_length-le}
+use lib.ListN.{length, take, drop, get_or}
 use lib.Seq.{drop-cons, take_all}
 use borrow.Author.Tests.{leb-true, eq-eqb, ne_eqb}
 use mir.Syntax.{w32}
@@ -32,9 +32,6 @@ every_all P (b ∷ bs) = ap (λ t. P b && t) (every_all P bs)
 pub value_step : (n : ℕ) (bs : Bytes) (i : ℕ) → i < length bs
     → value_from n (drop i bs) ≡ value_from (10 * n + (get_or bs i 0 - ZERO)) (drop (i + 1) bs)
 value_step n bs i l = rw (drop-cons bs i 0 l, add-one i)
-
-pub value_end : (n : ℕ) (bs : Bytes) (i : ℕ) → length bs ≤ i → value_from n (drop i bs) ≡ n
-value_end n bs i l = rw (drop_of_length-le bs l)
 
 -- further digits make it no less
 pub value_least : (n : ℕ) (bs : Bytes) → n ≤ value_from n bs
@@ -92,7 +89,7 @@ module _ (bs : Bytes) (plain : is_plain bs ≡ true) where
   pub plain_length : (1 ≤ length bs) × (length bs ≤ 7)
   plain_length = digits_length bs plain_both
 
-  plain_digits : every is_digit bs ≡ true
+  pub plain_digits : every is_digit bs ≡ true
   plain_digits = and_right (between 1 7 (length bs)) (every is_digit bs) plain_both
 
   pub plain_at : (i : ℕ) → i < length bs → (ZERO ≤ get_or bs i 0) × (get_or bs i 0 ≤ 57)

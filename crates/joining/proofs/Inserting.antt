@@ -195,12 +195,6 @@ module _ {k : ℕ} {ws : Words} {s : ℕ} {e : Entry} (may : MayInsert (suc k) w
     below_is : grew us new ≡ inserted k ws (child_of ws s e) e
     below_is = below ∙ ap (λ o. inserted k ws o e) child_is
 
-    pub below_long : length us ≡ LENGTH
-    below_long = ap (λ g. length g.words) below_is ∙ (may_steps may).long
-
-    pub below_single : length (new_of new) ≤ 1
-    below_single = omega (arith, ap (λ g. length g.new) below_is, (may_steps may).single)
-
     module _ {tight : Entry} (read : tight ≡ entry_for us (get_or n.entries i blank_entry).reference) {r m : Node}
         (put : Shows r (page n.level (set (held n) i tight))) (more : Shows m (page r.level (held r ++ new_of new))) where
       above_took : Shows m (page (suc k) (set (entries_at ws s) (chosen e.rect (entries_at ws s)) (entry_for (inserted k ws (child_of ws s e) e).words (child_of ws s e)) ++ (inserted k ws (child_of ws s e) e).new))

@@ -42,12 +42,6 @@ module _ {ws : Words} {s : ℕ} {n : Node} (may : MaySettle ws s n) (full : leng
         let e : drop (n.count / 2) (held all) ≡ drop (length (held n) / 2) (lined (held n)) = rw (ordered.entries, many) in
         record { level = rest.level ∙ ordered.level; count = rest.count ∙ ap length e; entries = rest.entries ∙ e }
 
-    pub kept_few : first.count ≤ FAN
-    kept_few = omega (arith, kept_page.count, first_length (held n), many, may.nine)
-
-    pub rest_few : other.count ≤ FAN
-    rest_few = omega (arith, rest_page.count, other_length (held n), many, may.nine)
-
     pub kept_fits : PageFits (shown first)
     kept_fits =
         shows_fits kept_page may.level (omega (arith, first_length (held n), many, may.nine)) (first_all EntryFits (held n) may.fits)

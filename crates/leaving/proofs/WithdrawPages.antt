@@ -125,9 +125,6 @@ module _ (ws : Words) (s : ℕ) (p : Page) (a : ℕ) (j : Joinable ws s p a) whe
     abbrev merged_now : Words
     merged_now = freed put_one (entry_in es (a + 1)).reference
 
-    pub merged_long : length merged_now ≡ LENGTH
-    merged_long = freed_long put_one (entry_in es (a + 1)).reference put_one_long next_child.inside ∙ put_one_long
-
     merged_read : entries_at merged_now (entry_in es a).reference ≡ joint_at ws es a
     merged_read =
         ap (λ q. q.entries)
@@ -172,10 +169,6 @@ module _ (ws : Words) (s : ℕ) (p : Page) (a : ℕ) (j : Joinable ws s p a) whe
 
   abbrev shared_now : Words
   shared_now = put_page put_low (entry_in es (a + 1)).reference high_page
-
-  pub shared_long : length shared_now ≡ LENGTH
-  shared_long =
-      put_long put_low (entry_in es (a + 1)).reference high_page put_low_long next_child.inside high_page_fits.few ∙ put_low_long
 
   low_read : entries_at shared_now (entry_in es a).reference ≡ first_share (joint_at ws es a)
   low_read =

@@ -119,20 +119,6 @@ module _ (ws : Words) (s : ℕ) where
   pub lower_one : (level_at ws s ≡ 0 → ⊥) → k ≡ 1 → given_way ws s ≡ lowered ws s
   lower_one f g = sym (lower_above (λ z. omega (arith, g)) f ∙ ap (λ b. cond b (given_way ws s) ws) (eq-eqb k 1 g))
 
-  -- it keeps the table's length
-  module _ (low : Lowerable ws s) where
-    freed_words : length (freed ws s) ≡ LENGTH
-    freed_words = freed_long ws s low.long low.inside ∙ low.long
-
-    pub lowered_long : length (lowered ws s) ≡ LENGTH
-    unfolding lowered
-    lowered_long =
-        by_bool (λ b. length (cond b (emptied ws s) (cond (not (eqb (level_at ws s) 0) && eqb k 1) (given_way ws s) ws)) ≡ LENGTH) (eqb k 0)
-        (λ e. length-set (freed ws s) 0 (negsuc 0) ∙ freed_words)
-        (λ e.
-        by_bool (λ b. length (cond b (given_way ws s) ws) ≡ LENGTH) (not (eqb (level_at ws s) 0) && eqb k 1)
-        (λ f. length-set (freed ws s) 0 (pos (entry_in (entries_at ws s) 0).reference) ∙ freed_words) (λ f. low.long))
-
 -- ---- step by step
 
 module _ (ws : Words) (n root level : ℕ) (after : Words) (er : root ≡ root_of ws) (el : level ≡ level_at ws root) (ea : after ≡ removed level ws root n) where

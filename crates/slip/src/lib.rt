@@ -18,16 +18,14 @@ pub struct Slip<'a> {
 }
 
 // How many digits a number has.
+#[tactic(auto, using(crate::proofs::Decimal::count_power, crate::proofs::Decimal::count_small))]
 fn digit_count(n: u64) -> usize
     ensures { result ≡ length (decimal n) }
 {
-    let mut count: usize = 1;
-    let mut rest = n;
-    while rest >= 10 {
-        rest /= 10;
-        count += 1;
+    match n.checked_ilog10() {
+        Some(tens) => tens as usize + 1,
+        None => 1,
     }
-    count
 }
 
 impl Slip<'_> {

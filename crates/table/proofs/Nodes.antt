@@ -5,8 +5,8 @@ use mathlib.Core.List.{List, [], ◌∷◌, ◌++◌, append_assoc}
 use native.Mathlib.Omega.{arith}
 use denote.Laws.{Is}
 use denote.Struct.Laws.{val}
-use lib.ListN.{length, take, drop, set, get_or, length-take, length-drop, length-append}
-use lib.Seq.{paste, paste-suc, length-paste, take-paste, drop-paste, length-take-le, take-nil, take-append_seam, get_or-take, get_or-drop}
+use lib.ListN.{length, take, drop, set, get_or, length-take, length-append}
+use lib.Seq.{paste, paste-suc, length-paste, take-paste, length-take-le, take-nil, take-append_seam, get_or-take}
 use Rattle.table.specs.declared.node.Entry.{Entry}
 use Rattle.table.specs.declared.node.Node.{Node}
 use Rattle.table.specs.Page.{Page, page, held, shown, Shows, blank_entry}
@@ -77,7 +77,7 @@ module _ {n : Node} {p : Page} (s : Shows n p) where
   pub page_at_lem : (i : ℕ) (d : Entry) → i < n.count → get_or n.entries i d ≡ get_or p.entries i d
   page_at_lem i d h = sym (get_or-take n.count n.entries i d h) ∙ ap (λ es. get_or es i d) s.entries
 
--- ---- a run copied, one entry a turn
+-- ---- a run copied
 
 pub drop_take : {A : Type 0} (n m : ℕ) (l : List A) → drop n (take m l) ≡ take (m - n) (drop n l)
 drop_take zero m l =
@@ -91,7 +91,7 @@ drop_take (suc n) (suc m) (x ∷ l) =
     let e : m - n ≡ suc m - suc n = omega arith in
     drop_take n m l ∙ ap (λ k. take k (drop n l)) e
 
--- l is d with the first j elements of s copied to the place at
+-- one entry a turn: l is d with the first j elements of s copied to the place at
 module _ {A : Type 0} (d : List A) (at : ℕ) (s : List A) (j : ℕ) (z : A) (l : List A) (made : l ≡ paste d at s j) where
   -- the next store makes the copy of one more
   pub copy_more : (w : ℕ) (x : A) (k : ℕ) → w ≡ at + j → x ≡ get_or s j z → k ≡ suc j → at + j < length d → j < length s
@@ -100,22 +100,6 @@ module _ {A : Type 0} (d : List A) (at : ℕ) (s : List A) (j : ℕ) (z : A) (l 
 
   pub copy_front : (w : ℕ) → w ≡ at + j → at ≤ length d → j ≤ length s → take w l ≡ take at d ++ take j s
   copy_front w ew hd hs = cc (take-paste d at s j hd hs)
-
-  -- what stands behind is as it was
-  pub copy_behind : (r : ℕ) → at + j ≤ r → at ≤ length d → j ≤ length s → get_or l r z ≡ get_or d r z
-  copy_behind r h hd hs =
-      let e : r ≡ (at + j) + (r - (at + j)) = omega arith in
-      ap (λ k. get_or l k z) e ∙ sym (get_or-drop (at + j) l (r - (at + j)) z) ∙ ap (λ x. get_or x (r - (at + j)) z) (ap (drop (at + j)) made ∙ drop-paste d at s j hd hs)
-      ∙ get_or-drop (at + j) d (r - (at + j)) z ∙ ap (λ k. get_or d k z) (sym e)
-
--- the same where the run that is copied stands further behind in d itself
-pub move_more : {A : Type 0} (d : List A) (at b j : ℕ) (z : A) (l : List A) → l ≡ paste d at (drop b d) j → at ≤ b
-    → b + j < length d → (w r k : ℕ) → w ≡ at + j → r ≡ b + j → k ≡ suc j → set l w (get_or l r z) ≡ paste d at (drop b d) k
-move_more d at b j z l made h hd w r k ew er ek =
-    let g = length-drop b d in
-    copy_more d at (drop b d) j z l made w (get_or l r z) k ew
-    (copy_behind d at (drop b d) j z l made r (omega arith) (omega arith) (omega arith) ∙ rw (er, get_or-drop)) ek
-    (omega arith) (omega arith)
 
 -- a copy is made: the node, with its number set
 pub copy_shows : (n : Node) (d : List Entry) (at : ℕ) (s : List Entry) (j : ℕ) (p : Page) → n.entries ≡ paste d at s j

@@ -1,4 +1,4 @@
--- `shape::rule1_at` meets its contract: the slot's part is lent, and zeros are asked from where its used words end. Assumes nothing.
+-- `shape::rule1_at` meets its contract: zeros are asked from where its used words end. Assumes nothing.
 use Prim.Native.Nat.{◌+◌}
 use native.Mathlib.Omega.{arith}
 use mathlib.Core.Path.{◌≡◌, refl, sym, ◌∙◌}
@@ -7,14 +7,13 @@ use Rattle.figures.specs.Figures.{WIDTH}
 use Rattle.table.specs.Words.{word, is_minus_one, start_of, part_at}
 use Rattle.table.specs.Page.{filled}
 use Rattle.rules.specs.Rules.{rule1}
-use Rattle.table.proofs.Parts.{lent_part}
 use Rattle.audit.proofs.shape.rule1_at.Goals as goal
 
 pub returns-then-is_free_part : goal.returns-then-is_free_part
 unfolding rule1
 returns-then-is_free_part c =
     let a = c.args in
-    let p = lent_part a.table.now a.slot (start_of a.slot) (start_of a.slot + WIDTH) refl (omega arith) in
+    let p = c.part_of-words.ensures in
     let f : is_minus_one (word (part_at a.table.now a.slot) 0) ≡ true = sym (rw p at c.is_free_part.ensures) ∙ c.if-is_free_part.true in
     rw f (rw p at c.zeros_from.ensures)
 
@@ -23,7 +22,7 @@ unfolding rule1
 returns c =
     let a = c.args in
     let part = part_at a.table.now a.slot in
-    let p = lent_part a.table.now a.slot (start_of a.slot) (start_of a.slot + WIDTH) refl (omega arith) in
+    let p = c.part_of-words.ensures in
     let f : is_minus_one (word part 0) ≡ false = sym (rw p at c.is_free_part.ensures) ∙ c.if-is_free_part.false in
     let n : c.filled_part.result ≡ filled part = rw p at c.filled_part.ensures in
     rw (f, ← n) (rw p at c.zeros_from-2.ensures)

@@ -1,22 +1,15 @@
 -- `shape::rule3_at` meets its contract: the tests in their order, of the first two words of the slot. Assumes nothing.
-use Prim.Native.Nat.{ℕ, ◌+◌}
 use mathlib.Core.Path.{◌≡◌, ap, sym, ◌∙◌}
 use mathlib.Core.Bool.{true, false}
 use native.Mathlib.Omega.{arith}
 use borrow.Author.Tests.{le-leb, lt-leb}
 use Rattle.words.specs.Word.{nat_of}
 use Rattle.figures.specs.Figures.{FAN}
-use Rattle.table.specs.Words.{Words, word, start_of, part_at, between}
+use Rattle.table.specs.Words.{word, part_at, between}
 use Rattle.table.specs.Slots.{is_free}
 use Rattle.rules.specs.Rules.{rule3}
-use Rattle.table.proofs.Slots.{word_at}
 use Rattle.audit.proofs.Words.{right_natural, left_negative}
 use Rattle.audit.proofs.shape.rule3_at.Goals as goal
-
-first : (ws : Words) (s : ℕ) → word (part_at ws s) 0 ≡ word ws (start_of s)
-first ws s =
-    let k : start_of s + 0 ≡ start_of s = omega arith in
-    word_at ws s 0 (omega arith) ∙ ap (word ws) k
 
 pub returns-then-is_free : goal.returns-then-is_free
 unfolding rule3
@@ -31,7 +24,8 @@ returns-then-steps_at-lt-ZERO c =
     let a = c.args in
     let ws = a.table.now in
     let f : is_free ws a.slot ≡ false = sym c.is_free.ensures ∙ c.if-is_free.false in
-    rw (f, first ws a.slot, left_negative (word ws (start_of a.slot)) (omega (arith, c.steps_at.ensures)))
+    let p = c.part_of-words.ensures in
+    rw (f, left_negative (word (part_at ws a.slot) 0) (omega (arith, rw p at c.steps_at.ensures)))
 
 pub returns-then-said-least_fill : goal.returns-then-said-least_fill
 unfolding rule3
@@ -40,9 +34,10 @@ returns-then-said-least_fill c =
     let a = c.args in
     let ws = a.table.now in
     let f : is_free ws a.slot ≡ false = sym c.is_free.ensures ∙ c.if-is_free.false in
-    let r = right_natural (word ws (start_of a.slot)) (omega (arith, c.steps_at.ensures)) in
-    let n : nat_of (word (part_at ws a.slot) 1) ≡ c.natural_at-said.result = ap nat_of (word_at ws a.slot 1 (omega arith)) ∙ sym c.natural_at-said.ensures in
-    rw (f, first ws a.slot, r, n) (ap (λ k. between k FAN c.natural_at-said.result) (sym c.least_fill.ensures)) in
+    let p = c.part_of-words.ensures in
+    let r = right_natural (word (part_at ws a.slot) 0) (omega (arith, rw p at c.steps_at.ensures)) in
+    let n : nat_of (word (part_at ws a.slot) 1) ≡ c.natural_at-said.result = sym (rw p at c.natural_at-said.ensures) in
+    rw (f, r, n) (ap (λ k. between k FAN c.natural_at-said.result) (sym c.least_fill.ensures)) in
     sym (past_level ∙ rw (lt-leb c.least_fill.result c.natural_at-said.result c.if-said-least_fill.true))
 
 pub returns : goal.returns
@@ -52,7 +47,8 @@ returns c =
     let a = c.args in
     let ws = a.table.now in
     let f : is_free ws a.slot ≡ false = sym c.is_free.ensures ∙ c.if-is_free.false in
-    let r = right_natural (word ws (start_of a.slot)) (omega (arith, c.steps_at.ensures)) in
-    let n : nat_of (word (part_at ws a.slot) 1) ≡ c.natural_at-said.result = ap nat_of (word_at ws a.slot 1 (omega arith)) ∙ sym c.natural_at-said.ensures in
-    rw (f, first ws a.slot, r, n) (ap (λ k. between k FAN c.natural_at-said.result) (sym c.least_fill.ensures)) in
+    let p = c.part_of-words.ensures in
+    let r = right_natural (word (part_at ws a.slot) 0) (omega (arith, rw p at c.steps_at.ensures)) in
+    let n : nat_of (word (part_at ws a.slot) 1) ≡ c.natural_at-said.result = sym (rw p at c.natural_at-said.ensures) in
+    rw (f, r, n) (ap (λ k. between k FAN c.natural_at-said.result) (sym c.least_fill.ensures)) in
     sym (past_level ∙ rw (le-leb c.least_fill.result c.natural_at-said.result c.if-said-least_fill.false))

@@ -1,0 +1,21 @@
+// What a query writes on, lent by who asks many of them.
+ghost use Rattle.std.specs.Prelude.{◌≡◌, ◌≤◌, length, take};
+
+use filter::rows::Rows;
+
+// The rows of its walk, and the numbers of the candidates that pass its final test.
+#[derive(Drop)]
+pub struct Slate<'a> {
+    pub rows: Rows<'a>,
+    pub kept: &'a mut [u32],
+}
+
+impl Slate<'_> {
+    // The first n numbers kept.
+    pub(crate) fn kept(&self, n: usize) -> &[u32]
+        requires { n ≤ length self.now.kept.now }
+        ensures { result.now ≡ take n self.now.kept.now }
+    {
+        &self.kept[..n]
+    }
+}
