@@ -1,28 +1,24 @@
 -- Loops over the entries of a node: the tests of those that it holds, and where the children of a node above lie. Assumes nothing.
 use Prim.Native.Nat.{ℕ, suc, ◌+◌, ◌≤◌, ◌<◌}
 use native.Mathlib.Numerals.{add-one}
-use native.Mathlib.Omega.{arith}
-use mathlib.Core.Path.{◌≡◌, sym, ap, subst, ◌∙◌}
-use mathlib.Core.Bool.{Bool, true, false}
+use mathlib.Core.Path.{◌≡◌, ap, ◌∙◌}
+use mathlib.Core.Bool.{true}
 use mathlib.Core.List.{List, [], ◌∷◌, ◌++◌, map-append}
 use borrow.Author.Tests.{ltb-true, leb-true}
 use lib.Dec.{leb, ltb}
 use lib.ListN.{length, get_or, take, drop}
 use lib.Seq.{take-suc, split_at}
 use Rattle.order.specs.Lists.{every, All}
-use Rattle.order.proofs.Lists.{all_mem, mem_all, all_at, and_left, and_right}
+use Rattle.order.proofs.Lists.{all_mem, mem_all, and_left, and_right}
 use Rattle.table.specs.declared.node.Entry.{Entry}
-use Rattle.table.specs.declared.node.Node.{Node}
 use Rattle.figures.specs.Figures.{SLOTS, HIGHEST}
 use Rattle.table.specs.Words.{Words, between}
-use Rattle.table.specs.Page.{Page, Shows, held, blank_entry}
-use Rattle.table.specs.Slots.{page_at, entries_at}
+use Rattle.table.specs.Page.{blank_entry}
+use Rattle.table.specs.Slots.{entries_at}
 use Rattle.table.specs.Stations.{is_point}
 use Rattle.rules.specs.Rules.{is_above, is_child, rule5}
-use Rattle.table.proofs.Nodes.{page_at_lem, held_length}
 use Rattle.rules.proofs.Tests.{every_all}
 use Rattle.audit.specs.Seen.{refs_of}
-use Rattle.audit.proofs.Every.{Tested, test_at, element_fails, elements_pass}
 
 -- ---- the children of a node above are slots of the table
 

@@ -1,32 +1,19 @@
--- A loop that tests one thing after the other and stops at the first that fails: what it has passed, and that its answer is the test of every thing.
--- Said of the numbers below n, and of the elements of a list. Assumes nothing.
+-- What is known of a test that is asked of one thing after the other: of the numbers below n, where the lowest that fails is looked for, and of the elements of a list, by std's `all`. Assumes nothing.
 use Prim.Native.Nat.{ℕ, suc, ◌+◌, ◌≤◌, ◌<◌}
 use native.Mathlib.Omega.{arith}
 use mathlib.Core.Path.{◌≡◌, refl, ap, sym, ◌∙◌}
-use mathlib.Core.Bool.{Bool, true, false, not, ◌&&◌, false≢true}
+use mathlib.Core.Bool.{Bool, true, false, ◌&&◌, false≢true}
 use mathlib.Core.List.{List, [], ◌∷◌}
 use Rattle.std.specs.Prelude.{Option, None, Some, MatchOption, IfSome}
 use Rattle.std.specs.List.{list_all}
 use lib.ListN.{length, get_or}
-use borrow.Author.Count.{below_none, below_more}
 use Rattle.order.specs.Lists.{every, All}
 use Rattle.order.specs.Order.{up_from}
 use Rattle.audit.specs.Asked.{LowestAt, LowestNo, Lowest}
 use Rattle.order.proofs.Lists.{all_at}
-use Rattle.rules.proofs.Tests.{by_test, every_all, all_every}
-use Rattle.rules.proofs.Broken.{Everywhere, FirstAt}
-use Rattle.rules.proofs.Counted.{every_below, below_every}
-
--- the first i of n have passed
-pub record Tested (P : ℕ → Bool) (n i : ℕ) : Type 0 where
-  pub within : i ≤ n
-  pub each : (k : ℕ) → k < i → P k ≡ true
-
-pub none_tested : (P : ℕ → Bool) (n : ℕ) → Tested P n 0
-none_tested P n = record { within = omega arith; each = below_none (λ k. P k ≡ true) }
-
-pub one_tested : (P : ℕ → Bool) (n i : ℕ) → Tested P n i → i < n → P i ≡ true → Tested P n (i + 1)
-one_tested P n i t h e = record { within = omega arith; each = below_more (λ k. P k ≡ true) i t.each e }
+use Rattle.rules.proofs.Tests.{by_test, every_all}
+use Rattle.rules.proofs.Broken.{FirstAt}
+use Rattle.rules.proofs.Counted.{every_below}
 
 -- what a call answers is a test: the branch `if !answer` says which way the test went
 pub failed : {r b : Bool} → r ≡ b → r ≡ false → b ≡ false
@@ -40,11 +27,8 @@ never_true {a} n = by_test a (λ e. absurd (n e)) (λ e. e)
 
 -- ---- the numbers below n
 
-pub one_fails : (P : ℕ → Bool) (n i : ℕ) → i < n → P i ≡ false → every P (up_from 0 n) ≡ false
+one_fails : (P : ℕ → Bool) (n i : ℕ) → i < n → P i ≡ false → every P (up_from 0 n) ≡ false
 one_fails P n i h f = never_true (λ e. false≢true (sym f ∙ every_below P n e i h))
-
-pub all_pass : (P : ℕ → Bool) (n i : ℕ) → Tested P n i → n ≤ i → every P (up_from 0 n) ≡ true
-all_pass P n i t h = below_every P n (λ k l. t.each k (omega arith))
 
 -- what answers as a rule does answers no where the rule is broken
 module _ {answers : ℕ → Bool → Type 0} (P : ℕ → Bool) {n : ℕ} (same : (k : ℕ) (b : Bool) → k < n → answers k b → b ≡ P k) where
@@ -77,15 +61,6 @@ lowest_first l = record { inside = l.within; below = l.below; broken = l.broken 
 pub lowest_fails : {P : ℕ → Bool} {n r : ℕ} → LowestAt (λ k b. P k ≡ b) n r → every P (up_from 0 n) ≡ false
 lowest_fails {P} {n} {r} l = one_fails P n r l.within l.broken
 
--- a test that is made by `!=`
-pub unlike : {a b r : Bool} → a ≡ b → r ≡ not a → r ≡ true → b ≡ false
-unlike {a = true} e h t = absurd (false≢true (sym h ∙ t))
-unlike {a = false} e h t = sym e
-
-pub alike : {a b r : Bool} → a ≡ b → r ≡ not a → r ≡ false → b ≡ true
-alike {a = true} e h t = sym e
-alike {a = false} e h t = absurd (false≢true (sym t ∙ h))
-
 -- ---- the elements of a list
 
 -- std's word for the same test
@@ -93,17 +68,6 @@ pub std_all : {A : Type 0} (P : A → Bool) (xs : List A) → list_all P xs ≡ 
 std_all P [] = refl
 std_all P (x ∷ xs) = ap (λ b. P x && b) (std_all P xs)
 
-all_below : {A : Type 0} (Q : A → Type 0) (xs : List A) (d : A) → ((i : ℕ) → i < length xs → Q (get_or xs i d)) → All Q xs
-all_below Q [] d h = tt
-all_below Q (x ∷ xs) d h = (h 0 (omega arith), all_below Q xs d (λ i l. h (suc i) (omega arith)))
-
-module _ {A : Type 0} (P : A → Bool) (xs : List A) (d : A) where
-  -- the test of the element at a place
-  abbrev pub test_at : ℕ → Bool
-  test_at i = P (get_or xs i d)
-
-  pub element_fails : (i : ℕ) → i < length xs → P (get_or xs i d) ≡ false → every P xs ≡ false
-  element_fails i h f = never_true (λ e. false≢true (sym f ∙ all_at (λ x. P x ≡ true) xs i d h (every_all P xs e)))
-
-  pub elements_pass : (i : ℕ) → Tested test_at (length xs) i → length xs ≤ i → every P xs ≡ true
-  elements_pass i t h = all_every P xs (all_below (λ x. P x ≡ true) xs d (λ k l. t.each k (omega arith)))
+-- one that fails
+pub element_fails : {A : Type 0} (P : A → Bool) (xs : List A) (d : A) (i : ℕ) → i < length xs → P (get_or xs i d) ≡ false → every P xs ≡ false
+element_fails P xs d i h f = never_true (λ e. false≢true (sym f ∙ all_at (λ x. P x ≡ true) xs i d h (every_all P xs e)))

@@ -51,9 +51,6 @@ marks_more seen ns r low m =
 -- ---- numbers entered after those before
 
 module _ (before : List ℕ) where
-  pub none_entered : (seen : List Bool) → Marks seen before → Entered before [] true seen
-  none_entered seen m = record { answer = refl; marks = λ e. rw append-nil m }
-
   module _ (ns : List ℕ) (seen : List Bool) (so : Entered before ns true seen) (r : ℕ) (low : r ≤ HIGHEST) where
     -- whether the map has the number is whether it was met
     met : get_or seen r false ≡ has r (before ++ ns)

@@ -57,11 +57,8 @@ pub fn rule6_at(table: &Words, slot: usize) -> bool
         return true;
     }
     let n = slot::node_at(table, slot);
-    for e in n.held() {
+    n.held().iter().all(|e| {
         let below = slot::entry_for(table, e.reference);
-        if e.rect != below.rect {
-            return false;
-        }
-    }
-    true
+        e.rect == below.rect
+    })
 }

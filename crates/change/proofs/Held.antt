@@ -7,7 +7,6 @@ use lib.ListN.{length, take, get_or, replicate, length-map}
 use lib.Seq.{get_or-take, take_at}
 use Rattle.order.specs.Lists.{All}
 use Rattle.order.specs.Order.{order, row_of, pick}
-use Rattle.order.proofs.Lists.{all_at}
 use Rattle.order.proofs.Order.{order_length, order_below, row_below, pick_order}
 use Rattle.table.specs.declared.node.Entry.{Entry}
 use Rattle.table.specs.declared.node.Node.{Node}

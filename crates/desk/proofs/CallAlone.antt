@@ -24,7 +24,7 @@ use Rattle.asking.specs.Asked.{Replied}
 use Rattle.listing.specs.Listed.{Listed}
 use Rattle.refusals.specs.Refusals.{query_gives}
 use Rattle.refusals.specs.Cases.{if_short_list}
-use Rattle.refusals.specs.Told.{Answered, told}
+use Rattle.refusals.specs.Told.{Answered, answered, told}
 use Rattle.desk.specs.Calls.{Queried, after_query, zero_counts, only_n}
 use Rattle.desk.specs.Lent.{queried, Answers}
 use Rattle.desk.specs.Alone.{blank_list, slate_left, AnswersAlone, SameAnswers, AnyList}
@@ -78,7 +78,7 @@ module _ (ws : Words) (q : Site) (k : ℤ) where
 
   -- the answer list decides, and either way the slate is written on
   pub alone_told : (before after : Slate) (old new : List ℕ) (reply : Reply) {g : Given} → g ≡ query_gives ws q k MOST (answers_told ws q k) → g ≡ Done
-      → Replied ws q (nat_of k) before after old new reply → AnswersAlone ws q k before after old new (told reply (length old))
+      → Replied ws q (nat_of k) before after old new reply → AnswersAlone ws q k before after old new (answered (told reply reply.n (length old)))
   unfolding slate_left
   alone_told before after old new reply e done r =
       let written = slate_after ws q (nat_of k) before in

@@ -9,7 +9,7 @@ use lib.Dec.{eqb, ltb}
 use lib.IntN.{ℤ}
 use lib.ListN.{length}
 use borrow.Author.Tests.{eqb-true, eq-eqb, ltb-true, ltb-false, lt-ltb, le-ltb, lt-leb, le-leb}
-use Rattle.std.specs.Prelude.{Err}
+use Rattle.std.specs.Prelude.{Ok, Err}
 use Rattle.limits.proofs.Refused.{if_refused}
 use Rattle.words.specs.Word.{nat_of}
 use Rattle.order.specs.Lists.{filter, has, Mem, NoDup}
@@ -21,10 +21,9 @@ use Rattle.table.specs.Given.{Given, Done, if_done}
 use Rattle.filter.specs.Query.{laid_over}
 use Rattle.card.specs.Card.{names_of, names_of_first, names_for}
 use Rattle.naming.specs.Named.{Named}
-use Rattle.refusals.specs.Told.{Carded}
+use Rattle.refusals.specs.Told.{Carded, carded, told}
 use Rattle.refusals.specs.Refusals.{card_gives}
 use Rattle.refusals.specs.Cases.{if_short_list}
-use Rattle.refusals.specs.Carding.{carded, card_told}
 use Rattle.refusals.proofs.Given.{if_not_few}
 use Rattle.desk.specs.Calls.{Listed, after_card}
 use Rattle.desk.specs.Carding.{listed, Cards}
@@ -44,7 +43,7 @@ module _ (ws : Words) (n k : ℤ) (old : List ℕ) where
   unfolding after_card
   after_is e = ap (λ g. outcome g its old) e
 
-  pub card_refused_is : {g : Given} → g ≡ card_gives ws n k (length old) → (g ≡ Done → ⊥) → (g ≡ Err ShortList → ⊥) → Cards ws n k old old (carded g 0)
+  pub card_refused_is : {g : Given} → g ≡ card_gives ws n k (length old) → (g ≡ Done → ⊥) → (g ≡ Err ShortList → ⊥) → Cards ws n k old old (record { given = g; names = 0 })
   card_refused_is {g} e refused long =
       listed_ext refl
       (sym (if_refused g refused (length its) (if_short_list g (length its) 0) ∙ if_not_few g long (length its) 0))
@@ -53,17 +52,17 @@ module _ (ws : Words) (n k : ℤ) (old : List ℕ) where
 
   -- the list decides
   pub card_told_is : (r : ℕ) (new : List ℕ) (places : ℕ) → card_gives ws n k (length old) ≡ cond (ltb (length old) (length its)) (Err ShortList) Done
-      → Named ws (nat_of n) (nat_of k) old new r → places ≡ length old → Cards ws n k old new (card_told r places)
+      → Named ws (nat_of n) (nat_of k) old new r → places ≡ length old → Cards ws n k old new (carded (told r r places))
   card_told_is r new places e h same =
-      by_bool (λ b. ltb (length old) (length its) ≡ b → Cards ws n k old new (card_told r places)) (ltb (length old) (length its))
+      by_bool (λ b. ltb (length old) (length its) ≡ b → Cards ws n k old new (carded (told r r places))) (ltb (length old) (length its))
       (λ t short.
       let less : length old < r = omega (arith, ltb-true (length old) (length its) short, h.names) in
-      ap (λ a. listed a new) (ap (λ b. cond b (carded ShortList r) (carded Done r)) (lt-ltb places r (omega arith)))
+      ap (λ a. listed a new) (ap (λ b. carded (cond b (Err (record { why = ShortList; length = r })) (Ok r))) (lt-ltb places r (omega arith)))
       ∙ listed_ext refl h.names (h.list ∙ ap (λ b. cond b (laid_over its old) old) (lt-leb r (length old) less))
       ∙ after_is (sym (e ∙ ap (λ b. cond b (Err ShortList) Done) short)))
       (λ t long.
       let room = ltb-false (length old) (length its) long in
-      ap (λ a. listed a new) (ap (λ b. cond b (carded ShortList r) (carded Done r)) (le-ltb places r (omega (arith, h.names))))
+      ap (λ a. listed a new) (ap (λ b. carded (cond b (Err (record { why = ShortList; length = r })) (Ok r))) (le-ltb places r (omega (arith, h.names))))
       ∙ listed_ext refl h.names (h.list ∙ ap (λ b. cond b (laid_over its old) old) (le-leb r (length old) (omega (arith, h.names))))
       ∙ after_is (sym (e ∙ ap (λ b. cond b (Err ShortList) Done) long)))
       refl

@@ -9,7 +9,7 @@ use lib.Dec.{T, ltb}
 use lib.IntN.{ℤ}
 use lib.ListN.{length}
 use borrow.Author.Tests.{lt-ltb, le-ltb, le-leb, lt-leb}
-use Rattle.std.specs.Prelude.{Err}
+use Rattle.std.specs.Prelude.{Ok, Err}
 use Rattle.words.specs.Word.{nat_of}
 use Rattle.grid.specs.declared.site.Site.{Site}
 use Rattle.order.specs.Lists.{one}
@@ -24,33 +24,11 @@ use Rattle.record.specs.declared.Candidate.{Candidate}
 use Rattle.listing.specs.Listed.{Listed}
 use Rattle.refusals.specs.Refusals.{query_gives}
 use Rattle.desk.specs.Calls.{after_query}
-use Rattle.refusals.specs.Cases.{refuses}
-use Rattle.refusals.specs.Told.{n_alone, all_three, told}
+use Rattle.refusals.specs.Told.{answered, told}
 use Rattle.desk.specs.Lent.{Answers}
 use Rattle.refusals.proofs.Given.{by_given}
 use Rattle.refusals.proofs.QueryOrder.{answers_told, query_early, not_few, query_late}
 use Rattle.desk.proofs.CallQuery.{after_refused, queried_ext, counts_ext}
-
-true_not_false : true ≡ false → ⊥
-true_not_false e =
-    let z : ◌≡◌ {A = ℕ} 1 0 = ap one e in
-    omega arith
-
--- how a test of the machine came out
-pub is_true : (b : Bool) → T b → b ≡ true
-is_true true h = refl
-is_true false h = absurd h
-
-pub is_false : (b : Bool) → T (not b) → b ≡ false
-is_false true h = absurd h
-is_false false h = refl
-
--- a refusal is not done, and what is no refusal is
-pub refused_not_done : (g : Given) → refuses g ≡ true → g ≡ Done → ⊥
-refused_not_done g r e = true_not_false (sym r ∙ ap refuses e)
-
-pub not_refused_done : (g : Given) → refuses g ≡ false → g ≡ Done
-not_refused_done g r = by_given g (λ e. e) (λ e. absurd (true_not_false (sym (ap refuses e) ∙ r))) (λ p. absurd (true_not_false (sym (p.done false true) ∙ r)))
 
 module _ (ws : Words) (q : Site) (k : ℤ) where
   -- a refusal before the answers are known
@@ -73,14 +51,14 @@ module _ (ws : Words) (q : Site) (k : ℤ) where
         ∙ by_leb (λ b. length (cond b (laid_over found old) old) ≡ length old) (length found) (length old) (λ h. laid_length found old h) (λ h. refl)
 
     -- one that is too short stays, and m and o are not told
-    list_few : length new < reply.n → Answers ws q k before after old new (n_alone reply.n)
+    list_few : length new < reply.n → Answers ws q k before after old new (answered (Err (record { why = ShortList; length = reply.n })))
     unfolding after_query
     list_few short =
         let h : query_gives ws q k (length before) (length old) ≡ Err ShortList = last ∙ rw (lt-ltb (length old) reply.n (omega (arith, new_length))) in
         let kept : new ≡ old = r.answers ∙ rw (lt-leb (answers_told ws q k) (length old) (omega (arith, new_length, r.n))) in
         rw h (queried_ext refl (counts_ext r.n refl refl) r.candidates kept)
 
-    list_done : reply.n ≤ length new → Answers ws q k before after old new (all_three reply)
+    list_done : reply.n ≤ length new → Answers ws q k before after old new (answered (Ok reply))
     unfolding after_query
     list_done enough =
         let h : query_gives ws q k (length before) (length old) ≡ Done = last ∙ rw (le-ltb (length old) reply.n (omega (arith, new_length))) in
@@ -88,10 +66,10 @@ module _ (ws : Words) (q : Site) (k : ℤ) where
         r.answers ∙ rw (le-leb (answers_told ws q k) (length old) (omega (arith, new_length, r.n))) in
         rw h (queried_ext refl (counts_ext r.n r.m r.o) r.candidates laid)
 
-    pub list_told : Answers ws q k before after old new (told reply (length old))
+    pub list_told : Answers ws q k before after old new (answered (told reply reply.n (length old)))
     list_told = go (dec_lt (length new) reply.n)
       where
-        go : Dec (length new < reply.n) → Answers ws q k before after old new (told reply (length old))
+        go : Dec (length new < reply.n) → Answers ws q k before after old new (answered (told reply reply.n (length old)))
         go (yes l) = rw (lt-ltb (length old) reply.n (omega (arith, new_length))) (list_few l)
         go (no l) =
             let h : reply.n ≤ length new = omega arith in

@@ -184,7 +184,7 @@ card_granted ws n k places e =
 pub full_points : (ws : Words) (n : ℤ) (p : Site) → enrol_gives ws n p ≡ Err Full → MOST ≤ points_of ws
 unfolding enrol_gives
 full_points ws n p e =
-    let last = (passed_before Full (checked ws (before_full ws n p)) (line (is_full ws) Full ∷ []) refl e).1 in
+    let last = (passed_before (Err Full) (checked ws (before_full ws n p)) (line (is_full ws) Full ∷ []) refl e).1 in
     leb-true MOST (points_of ws) (last_holds (is_full ws) Full last)
 
 -- 10: all is in order but for the answer list, which is shorter than n

@@ -65,7 +65,6 @@ pub ready_settles : {lo l : ℕ} {ws : Words} {s : ℕ} {xs : List (Item l)} →
 ready_settles {lo} {l} {ws} {s} {xs} r m h =
     let a : All Sits (held m) = subst (λ es. All Sits es) (sym h.entries) (ready_sits lo l ws s xs r) in
     record {
-      long = r.long;
       low = r.low;
       level = omega (arith, h.level, r.six);
       nine = omega (arith, h.count, length-map xs (entry_of_item l), r.nine);

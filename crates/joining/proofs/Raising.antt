@@ -7,7 +7,6 @@ use mathlib.Core.Bool.{true, false, ◌&&◌}
 use mathlib.Core.List.{[], ◌∷◌, ◌++◌, map}
 use lib.Dec.{eqb}
 use lib.IntN.{pos}
-use lib.ListN.{length}
 use borrow.Author.Tests.{eqb-true}
 use Rattle.std.specs.Prelude.{Option}
 use Rattle.order.specs.Lists.{every, All}
@@ -114,7 +113,6 @@ module _ {ws : Words} {e : Entry} (may : MayGrow ws e) where
           let left = made.left in
           let room : 0 < free_count (inserted l ws (top_of l t) e).words = omega (arith, made.few, held_room may.holds may.sound, good.low) in
           record {
-            long = ap length words ∙ made.frame.long ∙ may.holds.long;
             low = grow_root root;
             level = omega (arith, level_is, good.low);
             old = rw entry (tree_sits made.here (least_some l) here).fits;

@@ -25,7 +25,6 @@ grew ws new = record { words = ws; new = new_of new }
 
 -- up to nine entries, each of which a slot can hold, on the grid; and a slot is free
 pub record MaySettle (ws : Words) (s : ℕ) (n : Node) : Type 0 where
-  pub long : length ws ≡ LENGTH
   pub low : s < SLOTS
   pub level : n.level < 2 ^ 31
   pub nine : n.count ≤ 9
@@ -45,7 +44,6 @@ pub record MayInsert (l : ℕ) (ws : Words) (s : ℕ) (e : Entry) : Type 0 where
 
 -- the node in slot s is the root, of level l; it may have got a sibling
 pub record MayRaise (ws : Words) (s l : ℕ) : Type 0 where
-  pub long : length ws ≡ LENGTH
   pub low : s < SLOTS
   pub level : l ≤ 5
   pub old : EntryFits (entry_for ws s)

@@ -54,6 +54,7 @@ fn with_new(n: Node, new: Option<Entry>) -> Node
 
 // Into the node in a slot, of a level. In a leaf the newcomer goes last; above, it goes into the child that is chosen.
 // Handed up is the entry of a new node, if one was made.
+// Kept: slot and level as two words; each step down makes both anew, so a struct of them would be made and taken apart at each call.
 fn insert(table: &mut Words, slot: usize, level: usize, e: Entry) -> Option<Entry>
     requires { MayInsert level table.old slot e }
     ensures { grew table.new result ≡ inserted level table.old slot e }

@@ -21,7 +21,7 @@ use Rattle.table.specs.Page.{Page, page, page_of, held, shown, Shows, without, E
 use Rattle.table.specs.Slots.{page_at, level_at, entries_at, put_page, freed, entry_for}
 use Rattle.table.proofs.Nodes.{page_ext, held_few, shown_page, shows_on}
 use Rattle.table.proofs.Cover.{cover_entry_fits}
-use Rattle.table.proofs.Slots.{put_here, put_other, put_long, freed_other, freed_long, page_back, page_few}
+use Rattle.table.proofs.Slots.{put_here, put_other, put_long, freed_other, page_back, page_few}
 use Rattle.rules.proofs.Reading.{at_mem}
 use Rattle.change.specs.Choose.{entry_in}
 use Rattle.change.specs.Share.{lined, first_share, other_share}
@@ -243,27 +243,24 @@ module _ (ws : Words) (s : ℕ) (n : Node) (a : ℕ) (joint : Node) (j : Joinabl
 
 -- ---- up to ten entries are shared between two slots
 
-module _ (ws : Words) (c d : ℕ) (joint : Node) (may : MayShare ws c d joint) where
+module _ (c d : ℕ) (joint : Node) (may : MayShare c d joint) where
   pub first_fits : PageFits (page joint.level (first_share (held joint)))
   first_fits = record {
     level = may.level;
-    few = omega (arith, first_length (held joint), held_few joint, may.ten);
+    few = omega (arith, first_length (held joint), held_few joint, joint.room);
     entries = first_all EntryFits (held joint) may.fits;
   }
 
   pub other_fits : PageFits (page joint.level (other_share (held joint)))
   other_fits = record {
     level = may.level;
-    few = omega (arith, other_length (held joint), held_few joint, may.ten);
+    few = omega (arith, other_length (held joint), held_few joint, joint.room);
     entries = other_all EntryFits (held joint) may.fits;
   }
 
   module _ (all : Node) (ea : Shows all (page joint.level (lined (held joint)))) where
     pub all_count : all.count ≡ length (held joint)
     all_count = ea.count ∙ lined_length (held joint)
-
-    pub all_few : all.count ≤ 10
-    all_few = omega (arith, all_count, held_few joint, may.ten)
 
     pub first_shows : (r : Node) → Shows r (page all.level (take (all.count / 2) (held all))) → Shows r (page joint.level (first_share (held joint)))
     unfolding first_share
@@ -278,15 +275,13 @@ module _ (ws : Words) (c d : ℕ) (joint : Node) (may : MayShare ws c d joint) w
 module _ (ws : Words) (s : ℕ) (n : Node) (a : ℕ) (joint : Node) (j : Joinable ws s (shown n) a)
     (sh : Shows joint (page (n.level - 1) (joint_at ws (held n) a))) where
   module _ (c d : ℕ) (ec : c ≡ (entry_in (held n) a).reference) (ed : d ≡ (entry_in (held n) (a + 1)).reference) where
-    pub may_share : MayShare ws c d joint
+    pub may_share : MayShare c d joint
     may_share =
         let q = shown_page sh in
         record {
-          long = j.mendable.long;
           first = subst (λ o. o < SLOTS) (sym ec) (first_child ws s (shown n) a j).inside;
           other = subst (λ o. o < SLOTS) (sym ed) (next_child ws s (shown n) a j).inside;
           level = omega (arith, sh.level, level_low ws s (shown n) a j);
-          ten = omega (arith, sh.count, j.most);
           fits = subst (All EntryFits) (sym sh.entries) (joint_fits ws s (shown n) a j);
           grid = subst (All (λ e. RectOnGrid e.rect)) (sym sh.entries) (joint_grid ws s (shown n) a j);
         }

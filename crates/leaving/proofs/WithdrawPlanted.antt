@@ -1,12 +1,9 @@
 -- What the words below a slot give to the code of a withdrawal: the tree that a removal asks for, and where a number stands. Assumes nothing.
-use Prim.Native.Nat.{ℕ, zero, suc, ◌+◌, ◌-◌, ◌≤◌, ◌<◌}
+use Prim.Native.Nat.{ℕ, zero, suc, ◌-◌, ◌<◌}
 use native.Mathlib.Omega.{arith}
 use mathlib.Core.Path.{◌≡◌, refl, sym, ap, subst, ◌∙◌}
-use mathlib.Core.Bool.{Bool, cond, ◌||◌}
-use mathlib.Core.List.{List, [], ◌∷◌}
-use lib.Dec.{eqb, ltb}
-use lib.ListN.{length}
-use borrow.Author.Tests.{ltb-true, ltb-false, lt-ltb, le-ltb}
+use mathlib.Core.Bool.{Bool}
+use lib.Dec.{eqb}
 use Rattle.std.specs.Prelude.{Option, position}
 use Rattle.std.specs.Option.{is_some}
 use Rattle.order.specs.Lists.{some, All}
@@ -16,7 +13,6 @@ use Rattle.table.specs.declared.node.Node.{Node}
 use Rattle.table.specs.Page.{held, Shows}
 use Rattle.table.specs.Slots.{page_at, entries_at}
 use Rattle.table.specs.Tree.{least_of}
-use Rattle.table.proofs.Slots.{page_few}
 use Rattle.change.specs.Planted.{Planted}
 use Rattle.leaving.specs.Withdraw.{holds}
 use Rattle.change.proofs.Flat.{good_flat}

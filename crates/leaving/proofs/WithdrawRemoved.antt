@@ -13,14 +13,13 @@ use Rattle.order.specs.Lists.{one, some, first_place, join, Mem, All}
 use Rattle.order.proofs.Lists.{by_bool, count_append, all_mem, mem_all, all_append, all_at, all_then, all_map}
 use Rattle.table.specs.declared.node.Entry.{Entry}
 use Rattle.table.specs.declared.node.Node.{Node}
-use Rattle.figures.specs.Figures.{FAN, LEAST}
+use Rattle.figures.specs.Figures.{LEAST}
 use Rattle.table.specs.Words.{Words}
 use Rattle.table.specs.Page.{page, held, shown, Shows, without, EntryFits, PageFits, blank_entry}
 use Rattle.table.specs.Slots.{page_at, level_at, entries_at, put_page}
 use Rattle.grid.specs.Place.{RectOnGrid}
 use Rattle.table.specs.Tree.{Tree, bough, top_of, entry_of_tree, entries_of_tree, slots_of, leaves_of, Filled, Stored}
 use Rattle.table.proofs.Nodes.{shown_page, shows_on}
-use Rattle.table.proofs.Slots.{page_few}
 use Rattle.rules.proofs.Joined.{all_left, all_right}
 use Rattle.rules.proofs.Counted.{part_count, count_nodup}
 use Rattle.rules.proofs.Reading.{

@@ -7,24 +7,21 @@ use mathlib.Core.Bool.{cond, not, ◌&&◌, false≢true}
 use mathlib.Core.List.Memᴰ
 use mathlib.Core.List.{map}
 use lib.Dec.{eqb}
-use lib.IntN.{pos, negsuc}
-use lib.ListN.{length, length-set}
+use lib.ListN.{length}
 use borrow.Author.Tests.{eq-eqb, ne_eqb}
 use Rattle.order.specs.Lists.{has, Mem}
 use Rattle.order.proofs.Perm.{perm_map, perm_mem}
-use Rattle.order.proofs.Lists.{by_bool, has_mem}
+use Rattle.order.proofs.Lists.{has_mem}
 use Rattle.table.specs.declared.node.Entry.{Entry}
-use Rattle.figures.specs.Figures.{MOST, SLOTS, LENGTH}
+use Rattle.figures.specs.Figures.{MOST, SLOTS}
 use Rattle.table.specs.Words.{Words, root_of, points_of}
-use Rattle.table.specs.Slots.{level_at, entries_at, freed, with_points}
+use Rattle.table.specs.Slots.{level_at, entries_at, with_points}
 use Rattle.table.specs.Stations.{stations, station_of_entry}
 use Rattle.table.specs.Tree.{top_of, leaves_of, least_of}
-use Rattle.table.proofs.Slots.{freed_long}
 use Rattle.rules.proofs.Held.{held_stations}
 use Rattle.rules.proofs.Reading.{good_root, least_some, stored_level, held_root, held_points}
 use Rattle.rules.proofs.Size.{some_leaf}
 use Rattle.rules.proofs.WellFormed.{Held, well_formed_means, empty_stations}
-use Rattle.change.specs.Choose.{entry_in}
 use Rattle.change.specs.Planted.{Planted}
 use Rattle.leaving.specs.Withdraw.{holds, removed, emptied, given_way, lowered, withdrawn, Removable, Lowerable, MayWithdraw}
 use Rattle.change.proofs.Planting.{planted_inside}

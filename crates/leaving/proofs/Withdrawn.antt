@@ -207,7 +207,6 @@ module _ (ws : Words) (l : ℕ) (t : Tree l) (held : Holds ws l t) (sound : Soun
     -- a root above the leaves has its children in slots
     pub root_lowerable : Lowerable after s
     root_lowerable = record {
-      long = after_long;
       inside = s_low;
       child = λ h k.
           let q : entries_at after s ≡ entries_of_tree l rest = ap (entries_at after) (sym cut.top) ∙ stored_entries after rest_good cut.stored in

@@ -121,19 +121,16 @@ pub record Joinable (ws : Words) (s : ℕ) (p : Page) (a : ℕ) : Type 0 where
   pub next : a + 1 < length p.entries
   pub most : length (joint_at ws p.entries a) ≤ 10
 
--- up to ten entries, each of which a slot can hold, on the grid; and two slots
-pub record MayShare (ws : Words) (c d : ℕ) (n : Node) : Type 0 where
-  pub long : length ws ≡ LENGTH
+-- entries that a slot can hold, on the grid; and two slots
+pub record MayShare (c d : ℕ) (n : Node) : Type 0 where
   pub first : c < SLOTS
   pub other : d < SLOTS
   pub level : n.level < 2 ^ 31
-  pub ten : n.count ≤ 10
   pub fits : All EntryFits (held n)
   pub grid : All (λ e. RectOnGrid e.rect) (held n)
 
 -- the root after a removal: if it is to give way, then to a slot
 pub record Lowerable (ws : Words) (s : ℕ) : Type 0 where
-  pub long : length ws ≡ LENGTH
   pub inside : s < SLOTS
   pub child : 0 < level_at ws s → length (entries_at ws s) ≡ 1 → (entry_in (entries_at ws s) 0).reference < SLOTS
 

@@ -49,7 +49,7 @@ fn holds(table: &Words, level: usize, slot: usize, number: usize) -> bool
 
 // A node's entries in order go to two slots: the first share to c, the rest to d.
 fn share_out(table: &mut Words, c: usize, d: usize, joint: Node)
-    requires { MayShare table.old c d joint }
+    requires { MayShare c d joint }
     ensures { table.new ≡ shared_out table.old c d joint.level (held joint) }
 {
     let all = lined(joint);
@@ -153,6 +153,7 @@ impl Parent {
 }
 
 // Takes a point number out of the tree below a slot of this level.
+// Kept: slot and level as two words; each step down makes both anew, so a struct of them would be made and taken apart at each call.
 fn remove(table: &mut Words, level: usize, slot: usize, number: usize)
     requires { Removable level table.old slot number }
     ensures { table.new ≡ removed level table.old slot number }

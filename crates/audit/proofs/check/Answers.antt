@@ -1,5 +1,4 @@
 -- `check` meets its contract: a table of another length is refused as such. Assumes nothing.
-use mathlib.Core.Path.{ap}
 use borrow.Author.Tests.{ne_eqb}
 use lib.ListN.{length}
 use Rattle.figures.specs.Figures.{LENGTH}

@@ -3,7 +3,7 @@ use Prim.Native.Nat.{ℕ, ◌<◌}
 use native.Mathlib.Omega.{arith}
 use mathlib.Core.Path.{◌≡◌, refl, sym, ap, ◌∙◌}
 use mathlib.Core.List.{List, [], ◌∷◌}
-use borrow.Author.Tests.{eq-eqb, ne_eqb}
+use borrow.Author.Tests.{eq-eqb}
 use lib.IntN.{ℤ, pos, negsuc}
 use lib.ListN.{length, get_or}
 use Rattle.std.specs.Prelude.{Option, None, Some, Ok, Err, MatchOption}
@@ -212,8 +212,7 @@ returns c =
     let held6 : Everywhere SLOTS (rule6 ws) = slots_hold (rule6 ws) 6 c.first_broken-4.result (lowest_of (rule6 ws) (λ k b h a. search (search_rules, test_laws)) c.first_broken-4.ensures) c.in_ok-at_slots-5.ensures in
     let header : rule7_header ws ≡ true = sym c.points_agree.ensures ∙ header_holds c.points_agree.result 7 c.in_ok-at_header-2.ensures in
     last_given ws c.told-table
-    (λ held7.
-    (
+    (λ held7. (
       below_every (rule1 ws) SLOTS held1,
       (held2, (below_every (rule3 ws) SLOTS held3, (below_every (rule4 ws) SLOTS held4, (below_every (rule5 ws) SLOTS held5, (below_every (rule6 ws) SLOTS held6, (header, (held7, tt))))))),
     ))

@@ -24,8 +24,8 @@ returns-then-seen-number c =
     let points : every is_point es ≡ true = rw c.held-e-items.ensures c.requires in
     let low : e.reference ≤ HIGHEST = number_low e (all_at (λ e. is_point e ≡ true) es i blank_entry (omega arith) (every_all is_point es points)) in
     λ before m.
-        rw (← c.held-e-items.ensures, refs_split es i (omega arith))
-        (met_again before (refs_of (take i es)) c.loop-e.seen (c.loop-e.invariant before m) e.reference low c.if-seen-number.true (refs_of (drop (suc i) es)) c.loop-e.seen)
+    rw (← c.held-e-items.ensures, refs_split es i (omega arith))
+    (met_again before (refs_of (take i es)) c.loop-e.seen (c.loop-e.invariant before m) e.reference low c.if-seen-number.true (refs_of (drop (suc i) es)) c.loop-e.seen)
 
 pub loop-e-preserved : goal.loop-e-preserved
 loop-e-preserved c =
@@ -35,12 +35,12 @@ loop-e-preserved c =
     let points : every is_point es ≡ true = rw c.held-e-items.ensures c.requires in
     let low : e.reference ≤ HIGHEST = number_low e (all_at (λ e. is_point e ≡ true) es i blank_entry (omega arith) (every_all is_point es points)) in
     λ before m.
-        rw (refs_more es i (omega arith))
-        (one_entered before (refs_of (take i es)) c.loop-e.seen (c.loop-e.invariant before m) e.reference low c.if-seen-number.false)
+    rw (refs_more es i (omega arith))
+    (one_entered before (refs_of (take i es)) c.loop-e.seen (c.loop-e.invariant before m) e.reference low c.if-seen-number.false)
 
 pub returns : goal.returns
 returns c =
     let es = c.held-e-items.result.now in
     λ before m.
-        rw (← c.held-e-items.ensures)
-        (subst (λ ns. Entered before (refs_of ns) true c.loop-e.seen) (take_all c.loop-e.e-index es (omega arith)) (c.loop-e.invariant before m))
+    rw (← c.held-e-items.ensures)
+    (subst (λ ns. Entered before (refs_of ns) true c.loop-e.seen) (take_all c.loop-e.e-index es (omega arith)) (c.loop-e.invariant before m))

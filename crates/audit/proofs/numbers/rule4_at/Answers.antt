@@ -1,5 +1,4 @@
 -- `numbers::rule4_at` meets its contract: a leaf's entries are points, and its numbers are entered after those of the slots before. Assumes nothing.
-use native.Mathlib.Omega.{arith}
 use mathlib.Core.Path.{◌≡◌, ap, sym, subst, ◌∙◌}
 use mathlib.Core.Bool.{true, false, false≢true}
 use mathlib.Core.List.{append-nil}
@@ -9,7 +8,6 @@ use Rattle.order.specs.Order.{up_from}
 use Rattle.table.specs.Slots.{level_at, entries_at}
 use Rattle.table.specs.Stations.{is_point}
 use Rattle.rules.specs.Rules.{numbers_at, rule4}
-use Rattle.table.proofs.Slots.{page_few}
 use Rattle.audit.specs.Seen.{refs_of, Entered}
 use Rattle.audit.proofs.Every.{failed, passed}
 use Rattle.audit.proofs.Gathered.{join_more}

@@ -8,7 +8,6 @@ use Rattle.order.specs.Lists.{join, All}
 use Rattle.order.specs.Order.{up_from}
 use Rattle.figures.specs.Figures.{SLOTS}
 use Rattle.rules.specs.Rules.{is_above, refs_at}
-use Rattle.table.proofs.Slots.{page_few}
 use Rattle.audit.specs.Seen.{refs_of, Tally}
 use Rattle.audit.proofs.Entries.{children_inside}
 use Rattle.audit.proofs.Gathered.{join_more}

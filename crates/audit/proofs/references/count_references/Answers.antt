@@ -1,7 +1,7 @@
 -- `references::count_references` meets its contract. The invariant: the references passed are counted, and no number is too large. Assumes nothing.
 use Prim.Native.Nat.{◌+◌, ◌*◌, ◌<◌}
 use native.Mathlib.Omega.{arith}
-use mathlib.Core.Path.{◌≡◌, sym, subst}
+use mathlib.Core.Path.{◌≡◌, subst}
 use mathlib.Core.List.{[], ◌∷◌, ◌++◌, append_assoc}
 use lib.ListN.{length, get_or, take}
 use lib.Seq.{take_all}
@@ -33,5 +33,5 @@ pub returns : goal.returns
 returns c =
     let es = c.held-e-items.result.now in
     λ before t.
-        rw (← c.held-e-items.ensures)
-        (subst (λ ns. Tally c.loop-e.times (before ++ refs_of ns)) (take_all c.loop-e.e-index es (omega arith)) (c.loop-e.invariant.1 before t))
+    rw (← c.held-e-items.ensures)
+    (subst (λ ns. Tally c.loop-e.times (before ++ refs_of ns)) (take_all c.loop-e.e-index es (omega arith)) (c.loop-e.invariant.1 before t))

@@ -1,10 +1,7 @@
 -- `shape::rule1_at` meets its contract: zeros are asked from where its used words end. Assumes nothing.
-use Prim.Native.Nat.{◌+◌}
-use native.Mathlib.Omega.{arith}
-use mathlib.Core.Path.{◌≡◌, refl, sym, ◌∙◌}
+use mathlib.Core.Path.{◌≡◌, sym, ◌∙◌}
 use mathlib.Core.Bool.{true, false}
-use Rattle.figures.specs.Figures.{WIDTH}
-use Rattle.table.specs.Words.{word, is_minus_one, start_of, part_at}
+use Rattle.table.specs.Words.{word, is_minus_one, part_at}
 use Rattle.table.specs.Page.{filled}
 use Rattle.rules.specs.Rules.{rule1}
 use Rattle.audit.proofs.shape.rule1_at.Goals as goal

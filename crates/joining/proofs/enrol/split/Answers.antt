@@ -1,7 +1,5 @@
 -- `joining::enrol::split` meets its contract: the ordered node's two parts are the shares, which fit into slots. Assumes nothing.
-use Prim.Native.Nat.{◌≤◌, ◌/◌}
 use native.Mathlib.Omega.{arith}
-use mathlib.Core.Path.{◌∙◌}
 use Rattle.table.proofs.Nodes.{full}
 use Rattle.joining.proofs.Settling.{ordered_count, kept_fits, rest_fits, split_words}
 use Rattle.joining.proofs.enrol.split.Goals as goal

@@ -1,5 +1,5 @@
 -- The level falls where `holds` calls `child_place`, and stays where `child_place` calls `holds`. The loop's invariant: the number stands below no child passed.
-use Prim.Native.Nat.{ℕ, ◌+◌, ◌-◌, ◌*◌, ◌≤◌, ◌<◌}
+use Prim.Native.Nat.{ℕ, ◌+◌, ◌*◌, ◌<◌}
 use mathlib.Core.Path.{◌≡◌}
 use mathlib.Core.Bool.{false}
 use lib.ListN.{get_or}

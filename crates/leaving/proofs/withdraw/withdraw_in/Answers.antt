@@ -1,6 +1,6 @@
 -- `leaving::withdraw::withdraw_in` meets its contract: a well-formed table with the point enrolled holds a sound tree with the number in it. Assumes nothing.
 use Prim.Native.Nat.{◌<◌}
-use mathlib.Core.Path.{sym, ap, subst, ◌∙◌}
+use mathlib.Core.Path.{sym, subst}
 use native.Mathlib.Omega.{arith}
 use Rattle.figures.specs.Figures.{SLOTS}
 use Rattle.table.specs.Slots.{level_at}

@@ -1,6 +1,4 @@
 -- `leaving::withdraw::Parent::merge` meets its contract: each step writes what the definition has. Assumes nothing.
-use mathlib.Core.Path.{ap, ◌∙◌}
-use lib.ListN.{length}
 use Rattle.table.specs.Page.{shown}
 use Rattle.leaving.proofs.WithdrawPages.{merged_fits, shown_fits, joint_few, merge_top}
 use Rattle.leaving.proofs.withdraw.Parent.merge.Goals as goal

@@ -1,6 +1,4 @@
 -- `leaving::withdraw::Parent::share` meets its contract: the shares stand in the two slots, and the page above them has both boxes tight. Assumes nothing.
-use mathlib.Core.Path.{ap, ◌∙◌}
-use lib.ListN.{length}
 use Rattle.table.specs.Page.{shown}
 use Rattle.leaving.proofs.WithdrawPages.{shared_fits, shown_fits, share_top}
 use Rattle.leaving.proofs.withdraw.Parent.share.Goals as goal
