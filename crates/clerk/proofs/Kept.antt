@@ -1,14 +1,12 @@
 -- What a line keeps: a table that passes the check passes it afterwards, and the answer list is as long as it was; and how long its output line is at most. Job by job. Assumes nothing.
 use Prim.Native.Nat.{ℕ, ◌+◌, ◌≤◌}
-use mathlib.Core.Path.{◌≡◌, refl, ap}
+use mathlib.Core.Path.{◌≡◌, refl}
 use mathlib.Core.List.{List, [], ◌∷◌}
 use native.Mathlib.Omega.{arith}
 use lib.ListN.{length, take, length-take}
 use Rattle.words.specs.Word.{nat_of}
 use Rattle.grid.specs.Site.{site}
-use Rattle.table.specs.declared.given.Given.{Given}
-use Rattle.table.specs.declared.given.Given.TheVariants.{Done}
-use Rattle.table.specs.Given.{number_given, if_done}
+use Rattle.table.specs.Given.{Given, Done, number_given, if_done}
 use Rattle.table.specs.Stations.{stations}
 use Rattle.rules.specs.Rules.{Passing}
 use Rattle.filter.specs.Query.{answers_found, laid_over}
@@ -17,7 +15,7 @@ use Rattle.refusals.specs.Refusals.{query_gives, card_gives}
 use Rattle.desk.specs.Calls.{Queried, after_query, after_card}
 use Rattle.desk.specs.Alone.{blank_list}
 use Rattle.desk.specs.Demands.{enrol, withdraw}
-use Rattle.refusals.proofs.Given.{by_given}
+use Rattle.limits.proofs.Refused.{if_either}
 use Rattle.desk.proofs.Granted.{query_granted, card_granted}
 use Rattle.desk.proofs.Kept.{call_kept}
 use Rattle.filter.proofs.RowLaws.{laid_length}
@@ -49,7 +47,7 @@ line_passing st p line = job_passing st p (job_of line)
 -- what a granted call makes is laid over the list, and a refused one leaves it
 list_kept : (g : Given) (made old : List ℕ) → (g ≡ Done → length made ≤ length old) → length (if_done g (laid_over made old) old) ≡ length old
 list_kept g made old fits =
-    by_given g (λ e. rw e (laid_length made old (fits e))) (λ e. rw e) (λ p. ap length (p.done (laid_over made old) old))
+    if_either g (λ l. length l ≡ length old) (λ e. laid_length made old (fits e)) refl
 
 job_answers : (st : State) (j : Job) → length (ran_job st j).state.answers ≡ length st.answers
 unfolding after_query after_card
@@ -75,7 +73,7 @@ line_answers st line = job_answers st (job_of line)
 -- ---- the output line
 
 if_most : (g : Given) (xs : List ℕ) → length (if_done g xs []) ≤ length xs
-if_most g xs = by_given g (λ e. rw e (omega arith)) (λ e. rw e (omega arith)) (λ p. rw (p.done xs []) (omega arith))
+if_most g xs = if_either g (λ l. length l ≤ length xs) (λ e. omega arith) (omega arith)
 
 -- three counts, and no more numbers than the answer list has
 granted_most : (r : Queried) → length (granted r) ≤ 3 + length r.answers

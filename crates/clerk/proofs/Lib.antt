@@ -1,5 +1,6 @@
 pub mod Cleared
 pub mod Jobs
+pub mod Slates
 pub mod Kept
 pub mod Going
 pub mod Whole

@@ -1,11 +1,10 @@
 -- A whole sheet: the program starts with the empty table and lists of 500, and writes one line for each line read.
-use Rattle.std.specs.Prelude.{ℕ, ◌+◌, cond, List, [], ◌∷◌, ◌++◌, ltb, length, take, replicate}
+use Rattle.std.specs.Prelude.{ℕ, ◌+◌, cond, List, [], ◌∷◌, ◌++◌, ltb, length, take, replicate, Err}
 use Rattle.grid.specs.Site.{site}
 use Rattle.figures.specs.Figures.{MOST}
 use Rattle.table.specs.Words.{Words}
-use Rattle.table.specs.declared.given.Given.{Given}
-use Rattle.table.specs.declared.given.Given.TheVariants as given
-use Rattle.table.specs.Given.{number_given, if_done}
+use Rattle.table.specs.declared.given.Refusal.TheVariants as refusal
+use Rattle.table.specs.Given.{Given, number_given, if_done}
 use Rattle.refusals.specs.Refusals.{enrol_gives, withdraw_gives}
 use Rattle.desk.specs.Calls.{after_enrol, after_withdraw, Queried, after_query, Listed, after_card}
 use Rattle.desk.specs.Alone.{blank_list}
@@ -57,8 +56,8 @@ ran_job st (Enrol n a b) = record { state = with_words st (after_enrol st.words 
 ran_job st (Withdraw n) = record { state = with_words st (after_withdraw st.words n); given = withdraw_gives st.words n; more = [] }
 ran_job st (Query a b k) = queried st (after_query st.words (site a b) k blank_list st.answers)
 ran_job st (Card n k) = carded st (after_card st.words n k st.answers)
-ran_job st (MissingK letter) = record { state = st; given = given.NoSuchK; more = [] }
-ran_job st Misshapen = record { state = st; given = given.Misshapen; more = [] }
+ran_job st (MissingK letter) = record { state = st; given = Err refusal.NoSuchK; more = [] }
+ran_job st Misshapen = record { state = st; given = Err refusal.Misshapen; more = [] }
 
 unfoldable pub ran_line : State → Bytes → Ran
 ran_line st line = ran_job st (job_of line)

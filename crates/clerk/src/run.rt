@@ -1,11 +1,16 @@
 // Lines of the sheet, one after the other, as many as the output buffer has room for.
 ghost use Rattle.std.specs.Prelude.{◌≡◌, ◌+◌, ◌≤◌, ◌<◌, ◌^◌, length};
+ghost use Rattle.figures.specs.Figures.{MOST};
 ghost use Rattle.rules.specs.Rules.{Passes};
+ghost use Rattle.asking.specs.Slate.{slate_of, Wide, SameSlate};
 ghost use Rattle.clerk.specs.Running.{lent, longest_line, RanLines};
 
 use crate::line::run_line;
-use figures::Table;
+use asking::slate::Slate;
+use figures::{Table, Words};
+use filter::rows::Rows;
 use sheet::reader::{line_here, next_here};
+use slip::Slip;
 use words::lent::are_words;
 
 // How far the sheet has been run: the place where the next line starts, its number, and how many bytes stand in the buffer.
@@ -24,30 +29,26 @@ pub fn longest_line(places: usize) -> usize
     107 + 21 * places
 }
 
-// Runs lines from a place of the sheet on, until its end or until the buffer might not hold another output line.
-pub fn run_lines(
+// Runs lines from a place of the sheet on, with a slate that the queries write on.
+fn run_on(
     sheet: &[u8],
     at: usize,
     number: u64,
-    table: &mut [i32],
+    table: &mut Words,
+    slate: &mut Slate<'_>,
     answers: &mut [u32],
     out: &mut [u8],
 ) -> Run
-    requires { Passes table.old × (at ≤ length sheet.now) × (number + length sheet.now < 2 ^ 64)
-        × (longest_line (length answers.old) ≤ length out.old) }
-    ensures { RanLines sheet.now at number
+    requires { Passes table.old × Wide MOST (slate_of slate.old) × (at ≤ length sheet.now)
+        × (number + length sheet.now < 2 ^ 64) × (longest_line (length answers.old) ≤ length out.old) }
+    ensures ran { RanLines sheet.now at number
         (lent table.old answers.old) (lent table.new answers.new)
         out.old out.new result }
+    ensures lent { SameSlate slate.old slate.new }
 {
     // Every call keeps the table well formed, and its words within 32 bits, as they are here.
     are_words(table);
     let need = longest_line(answers.len());
-    // The rows that the queries write on, made once for all lines.
-    let mut numbers = [0u32; Table::MOST];
-    let mut xs = [0u64; Table::MOST];
-    let mut ys = [0u64; Table::MOST];
-    let mut bars = [0u64; Table::MOST];
-    let mut kept = [0u32; Table::MOST];
     let mut run = Run {
         at,
         number,
@@ -58,24 +59,49 @@ pub fn run_lines(
             return run;
         }
         let line = line_here(sheet, run.at);
-        let filled = run_line(
-            line,
-            run.number,
-            table,
-            &mut numbers,
-            &mut xs,
-            &mut ys,
-            &mut bars,
-            &mut kept,
-            answers,
-            out,
-            run.filled,
-        );
+        let mut slip = Slip {
+            out: &mut *out,
+            at: run.filled,
+        };
+        run_line(line, run.number, table, slate, answers, &mut slip);
         run = Run {
             at: next_here(sheet, run.at),
             number: run.number + 1,
-            filled,
+            filled: slip.at,
         };
     }
     run
+}
+
+// Runs lines from a place of the sheet on, until its end or until the buffer might not hold another output line.
+pub fn run_lines(
+    sheet: &[u8],
+    at: usize,
+    number: u64,
+    table: &mut Words,
+    answers: &mut [u32],
+    out: &mut [u8],
+) -> Run
+    requires { Passes table.old × (at ≤ length sheet.now) × (number + length sheet.now < 2 ^ 64)
+        × (longest_line (length answers.old) ≤ length out.old) }
+    ensures { RanLines sheet.now at number
+        (lent table.old answers.old) (lent table.new answers.new)
+        out.old out.new result }
+{
+    // The rows that the queries write on, made once for all lines.
+    let mut numbers = [0u32; Table::MOST];
+    let mut xs = [0u64; Table::MOST];
+    let mut ys = [0u64; Table::MOST];
+    let mut bars = [0u64; Table::MOST];
+    let mut kept = [0u32; Table::MOST];
+    let mut slate = Slate {
+        rows: Rows {
+            numbers: &mut numbers,
+            xs: &mut xs,
+            ys: &mut ys,
+            bars: &mut bars,
+        },
+        kept: &mut kept,
+    };
+    run_on(sheet, at, number, table, &mut slate, answers, out)
 }

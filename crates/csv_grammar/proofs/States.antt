@@ -1,13 +1,10 @@
 -- The laws of the reader's states: where each kind of byte leads from each, by the cases of what follows. Assumes nothing.
-use Prim.Native.Nat.{ℕ, ◌+◌, ◌≤◌, ◌<◌}
+use Prim.Native.Nat.{ℕ, ◌≤◌, ◌<◌}
 use mathlib.Core.Path.{◌≡◌, refl, sym, ap, ◌∙◌}
 use mathlib.Core.Bool.{true, false, ◌&&◌, ◌||◌, false≢true}
 use mathlib.Core.List.{[], ◌∷◌}
 use native.Mathlib.Omega.{arith}
-use native.Mathlib.Numerals.{add-one}
 use lib.Dec.{eqb, leb}
-use lib.ListN.{length, drop, get_or, drop_of_length-le}
-use lib.Seq.{drop-cons}
 use borrow.Author.Tests.{le-leb, lt-leb, ne_eqb}
 use Rattle.order.proofs.Lists.{by_leb}
 use Rattle.sheet.specs.Bytes.{Bytes, FEED}
@@ -82,6 +79,10 @@ pub text_closed : OnText Closed Broken
 unfolding sound_from
 text_closed b e bs = rw (text_unquoted b e)
 
+pub text_broken : OnText Broken Broken
+unfolding sound_from
+text_broken b e bs = refl
+
 -- any other byte breaks the field, wherever the reader stands
 pub other_breaks : (state : State) (b : ℕ) → is_text b ≡ false → (b ≡ QUOTE → ⊥) → (b ≡ COMMA → ⊥) → (b ≡ RETURN → ⊥) → (b ≡ FEED → ⊥)
     → Leads state b Broken
@@ -94,10 +95,3 @@ other_breaks Closed b e q k r f bs = rw (ne_eqb b QUOTE q)
 other_breaks Broken b e q k r f bs = refl
 
 -- ---- a turn of the reader
-
-pub sound_step : (state next : State) (bs : Bytes) (i : ℕ) → i < length bs → Leads state (get_or bs i 0) next
-    → sound_from next (drop (i + 1) bs) ≡ sound_from state (drop i bs)
-sound_step state next bs i l e = rw (drop-cons bs i 0 l, add-one i) (sym (e _))
-
-pub sound_end : (state : State) (bs : Bytes) (i : ℕ) → length bs ≤ i → sound_from state [] ≡ sound_from state (drop i bs)
-sound_end state bs i l = rw (drop_of_length-le bs l)

@@ -3,15 +3,12 @@ ghost use Rattle.std.specs.Prelude.{◌≡◌};
 ghost use Rattle.csv_grammar.specs.Reading.{bare_of};
 
 // A field without the quote marks around it, as a part of it; two quote marks inside are still two. A field that has none is all of it.
+#[tactic(auto, using(crate::proofs::Unquoting::bare_short, crate::proofs::Unquoting::bare_plain, crate::proofs::Unquoting::bare_quoted))]
 pub fn bare(field: &[u8]) -> &[u8]
     ensures { result.now ≡ bare_of field.now }
 {
-    if field.len() < 2 {
-        return field;
+    match field {
+        [b'"', inside @ .., _] => inside,
+        _ => field,
     }
-    if field[0] != b'"' {
-        return field;
-    }
-    let end = field.len() - 1;
-    &field[1..end]
 }

@@ -191,10 +191,6 @@ module _ (mark : Mark) where
       let n : e - at ≡ end_of mark (drop at bs) = omega arith in
       rw n
 
-  pub part_most : (bs : Bytes) (at : ℕ) → length (part_at mark bs at) ≤ length bs
-  unfolding part_at
-  part_most bs at = omega (arith, length-take (end_of mark (drop at bs)) (drop at bs), length-drop at bs)
-
   -- a part that ends where the bytes do is not empty, unless it starts there
   part_long : (bs : Bytes) (at : ℕ) → at < length bs → length bs ≤ stop_at mark bs at → 0 < length (part_at mark bs at)
   unfolding stop_at part_at
@@ -225,20 +221,12 @@ module _ (mark : Mark) where
   pub behind_some : (bs : Bytes) (stop : ℕ) → stop < length bs → behind bs stop ≡ length (parts_of mark (drop (stop + width mark) bs))
   behind_some bs stop h = rw (lt-ltb _ _ h)
 
-  pub behind_none : (bs : Bytes) (stop : ℕ) → length bs ≤ stop → behind bs stop ≡ 0
-  behind_none bs stop h = rw (le-ltb _ _ h)
-
   pub parts_count : (bs : Bytes) (at : ℕ) → length (parts_of mark (drop at bs)) ≡ 1 + behind bs (stop_at mark bs at)
   parts_count bs at =
       by_stop (λ _. length (parts_of mark (drop at bs)) ≡ 1 + behind bs (stop_at mark bs at)) bs at
       (λ l. rw (from_more bs at l, lt-ltb _ _ l) (omega arith)) (λ l. rw (from_last bs at l, le-ltb _ _ l) (omega arith))
 
 -- ---- the records
-
-pub next_two : (file : Bytes) (at : ℕ) → at < length file → next_at LineEnd file at < length file → at + 2 ≤ next_at LineEnd file at
-next_two file at h =
-    by_stop LineEnd (λ n. n < length file → at + 2 ≤ n) file at
-    (λ l k. omega (arith, stop_within LineEnd file at (omega arith))) (λ l k. omega arith)
 
 records_none : records_of [] ≡ []
 unfolding records_of

@@ -2,5 +2,5 @@
 #![tactic(auto)]
 
 fn main(rt: HostRuntime) {
-    office::run(&mut rt.stdin(), &mut rt.stdout(), &mut rt.stderr());
+    let _ = office::run(&mut rt.stdin(), &mut rt.stdout(), &mut rt.stderr());
 }

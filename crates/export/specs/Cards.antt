@@ -3,13 +3,13 @@ use Rattle.std.specs.Prelude.{ℕ, ◌≡◌, cond, List, [], ◌∷◌, ◌++�
 use Rattle.table.specs.Words.{Words}
 use Rattle.table.specs.Given.{number_given, if_done}
 use Rattle.audit.specs.Check.{check_gives}
-use Rattle.filter.specs.Query.{laid_over}
 use Rattle.desk.specs.Calls.{after_card}
+use Rattle.export.specs.Front.{front_laid}
 use Rattle.export.specs.Where.{fault_laid}
 
--- how many names, laid over the front of the lent row; a row of no places gets nothing
+-- how many names, for a row of one place
 abbrev pub names_laid : ℕ → List ℕ → List ℕ
-names_laid names row = cond (ltb (length row) 1) row (laid_over (names ∷ []) row)
+names_laid names row = front_laid (names ∷ []) row
 
 -- what the caller is told, and what each lent list holds afterwards
 pub record ToldCard (ws : Words) (n k : ℤ) (old new row told : List ℕ) (was fault : List ℤ) (r : ℕ) : Type 0 where

@@ -1,3 +1,4 @@
+pub mod Front
 pub mod Where
 pub mod Told
 pub mod Sites

@@ -1,16 +1,17 @@
 -- A query for C and Rust programs: its answer is a number, the three counts go to a lent row, and where the table is bad to another.
-use Rattle.std.specs.Prelude.{ℕ, ◌≡◌, cond, List, [], ◌∷◌, ltb, ℤ, length}
+use Rattle.std.specs.Prelude.{ℕ, ◌≡◌, List, [], ◌∷◌, ℤ}
 use Rattle.grid.specs.declared.site.Site.{Site}
 use Rattle.table.specs.Words.{Words}
 use Rattle.table.specs.Given.{number_given}
-use Rattle.filter.specs.Query.{Counts, laid_over}
+use Rattle.filter.specs.Query.{Counts}
 use Rattle.record.specs.declared.Candidate.{Candidate}
 use Rattle.desk.specs.Calls.{after_query}
+use Rattle.export.specs.Front.{front_laid}
 use Rattle.export.specs.Where.{fault_laid}
 
--- n, m and o laid over the front of the lent row; a row of fewer than three places gets nothing
+-- n, m and o, for a row of three places
 abbrev pub counts_laid : Counts → List ℕ → List ℕ
-counts_laid c row = cond (ltb (length row) 3) row (laid_over (c.n ∷ c.m ∷ c.o ∷ []) row)
+counts_laid c row = front_laid (c.n ∷ c.m ∷ c.o ∷ []) row
 
 -- what the caller is told, and what each lent list holds afterwards
 pub record Told (ws : Words) (q : Site) (k : ℤ) (before after : List Candidate) (old new row told : List ℕ) (was fault : List ℤ) (r : ℕ) : Type 0 where

@@ -1,14 +1,15 @@
 -- The laws of digits: a test of every byte, one byte after another, and the value of digits, with its bounds, by recursion on the bytes. Assumes nothing.
 use Prim.Native.Nat.{ℕ, zero, suc, ◌+◌, ◌-◌, ◌*◌, ◌^◌, ◌≤◌, ◌<◌}
 use mathlib.Core.Path.{◌≡◌, refl, ap, ◌∙◌}
-use mathlib.Core.Bool.{Bool, true, false}
+use mathlib.Core.Bool.{Bool, true, false, not, ◌&&◌}
 use mathlib.Core.List.{[], ◌∷◌}
 use native.Mathlib.Omega.{arith}
 use native.Mathlib.Nat.{le_of_suc-le-suc, pow-succ', mul-le-mul_right, pow-le-pow_right}
 use native.Mathlib.Numerals.{add-one}
+use Rattle.std.specs.List.{list_all}
 use lib.Dec.{leb, eqb}
 use lib.IntN.{ℤ, pos, neg_ℤ, ◌-ℤ◌, +ℤ_idl}
-use lib.ListN.{length, take, drop, get_or, drop_of_length-le}
+use lib.ListN.{length, take, drop, get_or}
 use lib.Seq.{drop-cons, take_all}
 use borrow.Author.Tests.{leb-true, eq-eqb, ne_eqb}
 use mir.Syntax.{w32}
@@ -18,29 +19,19 @@ use Rattle.order.proofs.Lists.{and_left, and_right}
 use Rattle.order.specs.Lists.{every}
 use Rattle.table.specs.Words.{between}
 use Rattle.sheet.specs.Bytes.{Bytes}
-use Rattle.jobs.specs.declared.number.Read.TheVariants.{NoNumber}
-use Rattle.jobs.specs.Number.{MINUS, ZERO, is_digit, starts_with_zero, is_plain, value_from, value_of, plain_number, negative_number, read_number}
+use Rattle.jobs.specs.Number.{MINUS, ZERO, is_digit, are_digits, starts_with_zero, is_plain, value_from, value_of, plain_number, negative_number, read_number}
 
 -- ---- a test of every byte
 
-module _ (P : ℕ → Bool) (bs : Bytes) (i : ℕ) (l : i < length bs) where
-  pub every_fails : P (get_or bs i 0) ≡ false → every P (drop i bs) ≡ false
-  every_fails e = rw (drop-cons bs i 0 l, e)
-
-  pub every_on : P (get_or bs i 0) ≡ true → every P (drop (i + 1) bs) ≡ every P (drop i bs)
-  every_on e = rw (drop-cons bs i 0 l, e, add-one i)
-
-pub every_end : (P : ℕ → Bool) (bs : Bytes) (i : ℕ) → length bs ≤ i → every P (drop i bs) ≡ true
-every_end P bs i l = rw (drop_of_length-le bs l)
+pub every_all : (P : ℕ → Bool) (bs : Bytes) → list_all P bs ≡ every P bs
+every_all P [] = refl
+every_all P (b ∷ bs) = ap (λ t. P b && t) (every_all P bs)
 
 -- ---- what digits say
 
 pub value_step : (n : ℕ) (bs : Bytes) (i : ℕ) → i < length bs
     → value_from n (drop i bs) ≡ value_from (10 * n + (get_or bs i 0 - ZERO)) (drop (i + 1) bs)
 value_step n bs i l = rw (drop-cons bs i 0 l, add-one i)
-
-pub value_end : (n : ℕ) (bs : Bytes) (i : ℕ) → length bs ≤ i → value_from n (drop i bs) ≡ n
-value_end n bs i l = rw (drop_of_length-le bs l)
 
 -- further digits make it no less
 pub value_least : (n : ℕ) (bs : Bytes) → n ≤ value_from n bs
@@ -65,16 +56,41 @@ every_at P (b ∷ bs) e (suc i) l = every_at P bs (and_right (P b) (every P bs) 
 
 -- ---- plain digits
 
+digits_length : (bs : Bytes) → are_digits bs ≡ true → (1 ≤ length bs) × (length bs ≤ 7)
+digits_length bs e =
+    let short = and_left (between 1 7 (length bs)) (every is_digit bs) e in
+    (leb-true _ _ (and_left (leb 1 (length bs)) _ short), leb-true _ _ (and_right (leb 1 (length bs)) _ short))
+
+pub starts_at : (bs : Bytes) → 0 < length bs → starts_with_zero bs ≡ eqb (get_or bs 0 0) ZERO
+starts_at [] l = absurd (omega arith)
+starts_at (b ∷ bs) l = refl
+
+-- the tests one after the other
+pub digits_least : (bs : Bytes) → are_digits bs ≡ true → 1 ≤ length bs
+digits_least bs e = (digits_length bs e).0
+
+pub plain_none : (bs : Bytes) → are_digits bs ≡ false → is_plain bs ≡ false
+unfolding is_plain
+plain_none bs e = rw e
+
+pub plain_one : (bs : Bytes) → are_digits bs ≡ true → length bs ≡ 1 → is_plain bs ≡ true
+unfolding is_plain
+plain_one bs e one = rw (e, eq-eqb (length bs) 1 one)
+
+pub plain_more : (bs : Bytes) → are_digits bs ≡ true → (length bs ≡ 1 → ⊥) → is_plain bs ≡ not (eqb (get_or bs 0 0) ZERO)
+unfolding is_plain
+plain_more bs e more = rw (e, ne_eqb (length bs) 1 more, starts_at bs (digits_least bs e))
+
 module _ (bs : Bytes) (plain : is_plain bs ≡ true) where
-  pub plain_length : (1 ≤ length bs) × (length bs ≤ 7)
+  plain_both : are_digits bs ≡ true
   unfolding is_plain
-  plain_length =
-      let e = and_left (between 1 7 (length bs)) _ plain in
-      (leb-true _ _ (and_left (leb 1 (length bs)) _ e), leb-true _ _ (and_right (leb 1 (length bs)) _ e))
+  plain_both = and_left (are_digits bs) _ plain
+
+  pub plain_length : (1 ≤ length bs) × (length bs ≤ 7)
+  plain_length = digits_length bs plain_both
 
   pub plain_digits : every is_digit bs ≡ true
-  unfolding is_plain
-  plain_digits = and_left (every is_digit bs) _ (and_right (between 1 7 (length bs)) _ plain)
+  plain_digits = and_right (between 1 7 (length bs)) (every is_digit bs) plain_both
 
   pub plain_at : (i : ℕ) → i < length bs → (ZERO ≤ get_or bs i 0) × (get_or bs i 0 ≤ 57)
   plain_at i l = digit_range (get_or bs i 0) (every_at is_digit bs plain_digits i l)
@@ -84,14 +100,16 @@ module _ (bs : Bytes) (plain : is_plain bs ≡ true) where
       let ten : 10 ^ length bs ≤ 10 ^ 7 = pow-le-pow_right (omega arith) plain_length.1 in
       omega (arith, value_below 0 bs plain_digits)
 
+  pub plain_least : 1 ≤ length bs
+  plain_least = plain_length.0
+
+  pub plain_small : (n : ℕ) → n ≡ value_of bs → n < 10 ^ 7
+  plain_small n e = omega (arith, plain_below)
+
   -- a turn of the reader, after digits that say n, stays below too
   pub plain_next : (n i : ℕ) → i < length bs → value_from n (drop i bs) ≡ value_of bs → 10 * n + (get_or bs i 0 - ZERO) < 10 ^ 7
   plain_next n i l e =
       omega (arith, value_least (10 * n + (get_or bs i 0 - ZERO)) (drop (i + 1) bs), value_step n bs i l, plain_below)
-
-pub starts_at : (bs : Bytes) → 0 < length bs → starts_with_zero bs ≡ eqb (get_or bs 0 0) ZERO
-starts_at [] l = absurd (omega arith)
-starts_at (b ∷ bs) l = refl
 
 -- ---- the number as the machine has it
 
@@ -116,17 +134,12 @@ minus_back n l = to_z-of_z w32 (pos 0 -ℤ to_z w32 n) (minus_fits n l) ∙ minu
 
 -- ---- the minus in front
 
-pub reads_none : (bs : Bytes) → length bs ≡ 0 → read_number bs ≡ NoNumber
+pub reads_minus : (bs : Bytes) → 1 ≤ length bs → get_or bs 0 0 ≡ MINUS → read_number bs ≡ negative_number (take (length bs - 1) (drop 1 bs))
 unfolding read_number
-reads_none [] e = refl
-reads_none (b ∷ bs) e = absurd (omega arith)
+reads_minus [] l e = absurd (omega arith)
+reads_minus (b ∷ bs) l e = simp (eq-eqb b MINUS e, take_all (suc (length bs) - 1) bs (omega arith))
 
-pub reads_minus : (bs : Bytes) → (length bs ≡ 0 → ⊥) → get_or bs 0 0 ≡ MINUS → read_number bs ≡ negative_number (take (length bs - 1) (drop 1 bs))
-unfolding read_number
-reads_minus [] f e = absurd (f refl)
-reads_minus (b ∷ bs) f e = simp (eq-eqb b MINUS e, take_all (suc (length bs) - 1) bs (omega arith))
-
-pub reads_plain : (bs : Bytes) → (length bs ≡ 0 → ⊥) → (get_or bs 0 0 ≡ MINUS → ⊥) → read_number bs ≡ plain_number bs
-unfolding read_number
-reads_plain [] f e = absurd (f refl)
-reads_plain (b ∷ bs) f e = simp (ne_eqb b MINUS e)
+pub reads_plain : (bs : Bytes) → (1 ≤ length bs → get_or bs 0 0 ≡ MINUS → ⊥) → read_number bs ≡ plain_number bs
+unfolding read_number is_plain
+reads_plain [] f = refl
+reads_plain (b ∷ bs) f = simp (ne_eqb b MINUS (f (omega arith)))

@@ -1,18 +1,16 @@
 -- 01: "The first letter decides: E number x y; W number; Q x y k. Any other line is 11, an empty one included,
 -- except that a Q with sound x and y and either no further field or just one, empty, is 5, before any other check."
 -- 02 §1: K number k; 11, then 5 for a k field empty or absent.
-use Rattle.std.specs.Prelude.{ℕ, cond, List, [], ◌∷◌, eqb, ℤ}
+use Rattle.std.specs.Prelude.{ℕ, cond, Option, Some, None, List, [], ◌∷◌, eqb, ℤ}
 use Rattle.sheet.specs.Bytes.{Bytes, fields_of}
-use Rattle.jobs.specs.declared.number.Read.{Read}
-use Rattle.jobs.specs.declared.number.Read.TheVariants.{Number, NoNumber}
 use Rattle.jobs.specs.declared.job.Job.{Job}
 use Rattle.jobs.specs.declared.job.Job.TheVariants.{Enrol, Withdraw, Query, Card, MissingK, Misshapen}
 use Rattle.jobs.specs.Number.{read_number}
 
 -- go on with the number in a field; misshapen if there is none
-abbrev pub with_number : Read → (ℤ → Job) → Job
-with_number (Number z) next = next z
-with_number NoNumber next = Misshapen
+abbrev pub with_number : Option ℤ → (ℤ → Job) → Job
+with_number (Some z) next = next z
+with_number None next = Misshapen
 
 abbrev pub enrol_job : List Bytes → Job
 enrol_job [] = Misshapen

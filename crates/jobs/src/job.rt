@@ -4,11 +4,12 @@ ghost use Rattle.sheet.specs.Bytes.{fields_of};
 ghost use Rattle.jobs.specs.Number.{read_number};
 ghost use Rattle.jobs.specs.Job.{enrol_job, withdraw_job, query_job, card_job, job_of};
 
-use crate::number::{Read, read_number};
+use crate::number::read_number;
 use sheet::fields::{field, field_count};
 
 // What a line asks for, with its numbers as they stand: whether they are in range is decided later.
-#[derive(Clone, Copy)]
+// Kept: an enum of its own, no plainer as an Option of a job, since a misshapen line is answered by an output line like every job.
+#[derive(Clone, Copy, PartialEq, Eq)]
 pub enum Job {
     // Number, x, y.
     Enrol(i32, i32, i32),
@@ -24,7 +25,7 @@ pub enum Job {
 }
 
 // The number in field i of a line, or that it is none.
-fn number_in(line: &[u8], i: usize) -> Read
+fn number_in(line: &[u8], i: usize) -> Option<i32>
     ensures { result ≡ read_number (get_or (fields_of line.now) i []) }
 {
     read_number(field(line, i))
@@ -37,13 +38,13 @@ fn enrol_job(line: &[u8]) -> Job
     if field_count(line) != 4 {
         return Job::Misshapen;
     }
-    let Read::Number(number) = number_in(line, 1) else {
+    let Some(number) = number_in(line, 1) else {
         return Job::Misshapen;
     };
-    let Read::Number(x) = number_in(line, 2) else {
+    let Some(x) = number_in(line, 2) else {
         return Job::Misshapen;
     };
-    let Read::Number(y) = number_in(line, 3) else {
+    let Some(y) = number_in(line, 3) else {
         return Job::Misshapen;
     };
     Job::Enrol(number, x, y)
@@ -56,7 +57,7 @@ fn withdraw_job(line: &[u8]) -> Job
     if field_count(line) != 2 {
         return Job::Misshapen;
     }
-    let Read::Number(number) = number_in(line, 1) else {
+    let Some(number) = number_in(line, 1) else {
         return Job::Misshapen;
     };
     Job::Withdraw(number)
@@ -66,24 +67,20 @@ fn withdraw_job(line: &[u8]) -> Job
 fn query_job(line: &[u8]) -> Job
     ensures { result ≡ query_job (drop 1 (fields_of line.now)) }
 {
-    let n = field_count(line);
-    if n < 3 {
+    if !(3..=4).contains(&field_count(line)) {
         return Job::Misshapen;
     }
-    if n > 4 {
-        return Job::Misshapen;
-    }
-    let Read::Number(x) = number_in(line, 1) else {
+    let Some(x) = number_in(line, 1) else {
         return Job::Misshapen;
     };
-    let Read::Number(y) = number_in(line, 2) else {
+    let Some(y) = number_in(line, 2) else {
         return Job::Misshapen;
     };
     // Past the last field there are only empty ones, so this is empty too if the field is not there.
-    if field(line, 3).len() == 0 {
+    if field(line, 3).is_empty() {
         return Job::MissingK(b'Q');
     }
-    let Read::Number(k) = number_in(line, 3) else {
+    let Some(k) = number_in(line, 3) else {
         return Job::Misshapen;
     };
     Job::Query(x, y, k)
@@ -93,36 +90,31 @@ fn query_job(line: &[u8]) -> Job
 fn card_job(line: &[u8]) -> Job
     ensures { result ≡ card_job (drop 1 (fields_of line.now)) }
 {
-    let n = field_count(line);
-    if n < 2 {
+    if !(2..=3).contains(&field_count(line)) {
         return Job::Misshapen;
     }
-    if n > 3 {
-        return Job::Misshapen;
-    }
-    let Read::Number(number) = number_in(line, 1) else {
+    let Some(number) = number_in(line, 1) else {
         return Job::Misshapen;
     };
     // Past the last field there are only empty ones, so this is empty too if the field is not there.
-    if field(line, 2).len() == 0 {
+    if field(line, 2).is_empty() {
         return Job::MissingK(b'K');
     }
-    let Read::Number(k) = number_in(line, 2) else {
+    let Some(k) = number_in(line, 2) else {
         return Job::Misshapen;
     };
     Job::Card(number, k)
 }
 
 // What a line asks for. The first field is the letter alone, so an empty line is misshapen.
+#[tactic(auto, using(crate::proofs::Jobs::unlettered))]
 pub fn job_of(line: &[u8]) -> Job
     ensures { result ≡ job_of line.now }
 {
-    let first = field(line, 0);
-    if first.len() != 1 {
+    let [letter] = field(line, 0) else {
         return Job::Misshapen;
-    }
-    let letter = first[0];
-    match letter {
+    };
+    match *letter {
         b'E' => enrol_job(line),
         b'W' => withdraw_job(line),
         b'Q' => query_job(line),

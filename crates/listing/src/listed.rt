@@ -4,40 +4,33 @@ ghost use Rattle.listing.specs.Listed.{Listable, Listed};
 
 use crate::hand::hand_over;
 use asking::answer::{Reply, answer};
-use figures::Table;
+use asking::slate::Slate;
+use figures::{Table, Words};
+use filter::rows::Rows;
+use grid::site::Site;
 use record::Candidate;
 
-// Room for a number, and for a measure, of as many candidates as a table has points.
-fn numbers() -> [u32; Table::MOST] {
-    [0; Table::MOST]
-}
-
-fn measures() -> [u64; Table::MOST] {
-    [0; Table::MOST]
-}
-
-// The query writes on rows of its own, and its candidates go over to the front of the list; the rest of it stays.
+// The query writes on a slate of its own, with room for as many candidates as a table has points; its candidates go over to the front of the list, and the rest of that stays.
 pub fn answer_listed(
-    table: &[i32],
-    x: i32,
-    y: i32,
+    table: &Words,
+    q: Site,
     k: usize,
     list: &mut [Candidate],
     answers: &mut [u32],
 ) -> Reply
-    requires { Listable table.now (record { x = x; y = y }) (length list.old) }
-    ensures { Listed table.now (record { x = x; y = y }) k list.old list.new answers.old
-        answers.new result }
+    requires { Listable table.now q (length list.old) }
+    ensures { Listed table.now q k list.old list.new answers.old answers.new result }
 {
-    let mut ns = numbers();
-    let mut xs = measures();
-    let mut ys = measures();
-    let mut bars = measures();
-    let mut kept = numbers();
-    let reply = answer(
-        table, x, y, k, &mut ns, &mut xs, &mut ys, &mut bars, &mut kept, answers,
-    );
-    let m = reply.m;
-    hand_over(list, &ns, &xs, &ys, x, y, m);
+    let mut slate = Slate {
+        rows: Rows {
+            numbers: &mut [0; Table::MOST],
+            xs: &mut [0; Table::MOST],
+            ys: &mut [0; Table::MOST],
+            bars: &mut [0; Table::MOST],
+        },
+        kept: &mut [0; Table::MOST],
+    };
+    let reply = answer(table, q, k, &mut slate, answers);
+    hand_over(list, &slate.rows, q, reply.m);
     reply
 }

@@ -5,36 +5,36 @@
 // It stands on clerk (the lines) and on post (the reading and the writing).
 #![tactic(auto)]
 
-ghost use Rattle.std.specs.Prelude.{◌≡◌, true};
+ghost use Rattle.std.specs.Prelude.{◌≡◌, OnOk};
 ghost use Rattle.office.specs.Answered.{Answered};
 
 pub mod answer;
 
-use post::{Reading, write_all};
+use post::{or_tell, read_all};
 use sheet::marks::LONGEST;
+use std::io;
 use std::io::{Read, Write};
 
-// The program's body, which says whether all was read and written; if not, that is told. Nothing is written before all is read, so a read that fails
-// leaves no line said as done.
-pub fn run<R: Read, W: Write, E: Write>(input: &mut R, output: &mut W, errors: &mut E) -> bool
-    ensures answered { result ≡ true → Answered (R.remaining input.old) (R.remaining input.new)
-        (W.contents output.old) (W.contents output.new) }
-    ensures errors { result ≡ true → errors.new ≡ errors.old }
+// The program's body. What fails, to be read or to be written, is told. Nothing is written before all is read, so a read that fails leaves no line said as
+// done.
+pub fn run<R: Read, W: Write, E: Write>(
+    input: &mut R,
+    output: &mut W,
+    errors: &mut E,
+) -> io::Result<()>
+    ensures answered { OnOk result (Answered (R.remaining input.old) (R.remaining input.new)
+        (W.contents output.old) (W.contents output.new)) }
+    ensures errors { OnOk result (errors.new ≡ errors.old) }
 {
     let mut buffer = [0u8; LONGEST + 1];
-    let Reading::Done(n) = post::read_all(input, &mut buffer) else {
-        write_all(
-            errors,
-            b"ullagreth: the sheet cannot be read; nothing was done\n",
-        );
-        return false;
-    };
-    if answer::answer(&buffer[..n], output) {
-        return true;
-    }
-    write_all(
+    let n = or_tell(
+        read_all(input, &mut buffer),
+        errors,
+        b"ullagreth: the sheet cannot be read; nothing was done\n",
+    )?;
+    or_tell(
+        answer::answer(&buffer[..n], output),
         errors,
         b"ullagreth: the output cannot be written; it ends before the sheet does\n",
-    );
-    false
+    )
 }

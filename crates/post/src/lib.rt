@@ -4,52 +4,44 @@
 // It stands on std alone.
 #![tactic(auto)]
 
-ghost use Rattle.std.specs.Prelude.{◌≡◌, true};
+ghost use Rattle.std.specs.Prelude.{◌≡◌, OnOk};
 ghost use Rattle.std.specs.Io.KnownBytes.{Appends};
-ghost use Rattle.post.specs.Reading.{Filled, Gave, GaveAll};
+ghost use Rattle.post.specs.Reading.{Filled, GaveAll};
 
+use std::io;
 use std::io::{Read, Write};
 
-// How reading ended.
-#[derive(Clone, Copy)]
-pub enum Reading {
-    // So many bytes stand at the front of the buffer.
-    Done(usize),
-    Failed,
-}
-
-// One read: no bytes at the end of the input.
-fn read_more<R: Read>(reader: &mut R, buffer: &mut [u8]) -> Reading
-    ensures filled { Filled result buffer.new }
-    ensures gave { Gave result (R.remaining reader.old) (R.remaining reader.new) buffer.new }
-{
-    let Ok(more) = reader.read(buffer) else {
-        return Reading::Failed;
-    };
-    Reading::Done(more)
-}
-
-// Reads until the input ends or the buffer is full.
-pub fn read_all<R: Read>(reader: &mut R, buffer: &mut [u8]) -> Reading
+// Reads until the input ends or the buffer is full. So many bytes then stand at the front of the buffer.
+pub fn read_all<R: Read>(reader: &mut R, buffer: &mut [u8]) -> io::Result<usize>
     ensures filled { Filled result buffer.new }
     ensures gave { GaveAll result (R.remaining reader.old) (R.remaining reader.new) buffer.new }
 {
     let mut done = 0;
     while done < buffer.len() {
-        let Reading::Done(more) = read_more(reader, &mut buffer[done..]) else {
-            return Reading::Failed;
-        };
+        let more = reader.read(&mut buffer[done..])?;
         if more == 0 {
-            return Reading::Done(done);
+            return Ok(done);
         }
         done += more;
     }
-    Reading::Done(done)
+    Ok(done)
 }
 
-// Writes all of the bytes, and says whether each was taken: a write that fails, or takes none, ends it. Of no bytes no write is made.
-pub fn write_all<W: Write>(writer: &mut W, bytes: &[u8]) -> bool
-    ensures { result ≡ true → Appends (W.contents writer.old) (W.contents writer.new) bytes.now }
+// Writes all of the bytes: a write that fails, or takes none, ends it with its error. Of no bytes no write is made.
+pub fn write_all<W: Write>(writer: &mut W, bytes: &[u8]) -> io::Result<()>
+    ensures { OnOk result (Appends (W.contents writer.old) (W.contents writer.new) bytes.now) }
 {
-    writer.write_all(bytes).is_ok() && writer.flush().is_ok()
+    writer.write_all(bytes)?;
+    writer.flush()
+}
+
+// What was done stays what it is; if it failed, the message is written besides, as far as it can be.
+pub fn or_tell<T, E: Write>(done: io::Result<T>, errors: &mut E, message: &[u8]) -> io::Result<T>
+    ensures same { result ≡ done }
+    ensures quiet { OnOk result (errors.new ≡ errors.old) }
+{
+    if done.is_err() {
+        let _told = write_all(errors, message);
+    }
+    done
 }

@@ -5,86 +5,67 @@
 // It stands on roster (the list) and on post (reading and writing).
 #![tactic(auto)]
 
-ghost use Rattle.std.specs.Prelude.{◌≡◌, ◌+◌, ◌*◌, ◌≤◌, length, true};
-ghost use Rattle.std.specs.Io.KnownBytes.{Appends};
+ghost use Rattle.std.specs.Prelude.{◌+◌, ◌*◌, ◌≤◌, length, OnOk};
 ghost use Rattle.sheet.specs.Bytes.{LONGEST};
 ghost use Rattle.registry.specs.Answered.{Written, Answered};
 
-use post::{Reading, read_all, write_all};
+use post::{or_tell, read_all, write_all};
 use roster::list::{LINES, REPORTS, put_list};
 use sheet::marks::LONGEST;
+use std::io;
 use std::io::{Read, Write};
 
-// Writes the reports. It says whether each byte was taken; if not, that is told behind them.
-fn write_reports<E: Write>(errors: &mut E, reports: &[u8]) -> bool
-    ensures { result ≡ true → Appends (E.contents errors.old) (E.contents errors.new) reports.now }
-{
-    if write_all(errors, reports) {
-        return true;
-    }
-    write_all(
-        errors,
-        b"stations: the reports cannot be written; they end before the list does\n",
-    );
-    false
-}
-
-// Writes the job sheet. It says whether each byte was taken; if not, that is told.
-fn write_lines<W: Write, E: Write>(output: &mut W, errors: &mut E, lines: &[u8]) -> bool
-    ensures lines { result ≡ true → Appends (W.contents output.old) (W.contents output.new) lines.now }
-    ensures errors { result ≡ true → errors.new ≡ errors.old }
-{
-    if write_all(output, lines) {
-        return true;
-    }
-    write_all(
-        errors,
-        b"stations: the output cannot be written; it ends before the list does\n",
-    );
-    false
-}
-
-// Writes the job sheet and the reports of a list, and says whether each byte was taken. The reports come first, so that a write that fails is told behind them.
+// Writes the job sheet and the reports of a list. The reports come first, so that a write that fails is told behind them.
 fn write_list<W: Write, E: Write>(
     file: &[u8],
     output: &mut W,
     errors: &mut E,
     lines: &mut [u8],
     reports: &mut [u8],
-) -> bool
+) -> io::Result<()>
     requires { (LONGEST ≤ length lines.old) × (5 * LONGEST + 42 ≤ length reports.old) }
-    ensures { result ≡ true → Written file.now (W.contents output.old) (W.contents output.new)
-        (E.contents errors.old) (E.contents errors.new) }
+    ensures { OnOk result (Written file.now (W.contents output.old) (W.contents output.new)
+        (E.contents errors.old) (E.contents errors.new)) }
 {
     let filled = put_list(file, lines, reports);
-    let told = write_reports(errors, &reports[..filled.reports]);
-    let lined = write_lines(output, errors, &lines[..filled.lines]);
-    told && lined
+    let told = or_tell(
+        write_all(errors, &reports[..filled.reports]),
+        errors,
+        b"stations: the reports cannot be written; they end before the list does\n",
+    );
+    let lined = or_tell(
+        write_all(output, &lines[..filled.lines]),
+        errors,
+        b"stations: the output cannot be written; it ends before the list does\n",
+    );
+    told.and(lined)
 }
 
 // The buffers have room for what any list becomes.
-fn answer<W: Write, E: Write>(file: &[u8], output: &mut W, errors: &mut E) -> bool
-    ensures { result ≡ true → Written file.now (W.contents output.old) (W.contents output.new)
-        (E.contents errors.old) (E.contents errors.new) }
+fn answer<W: Write, E: Write>(file: &[u8], output: &mut W, errors: &mut E) -> io::Result<()>
+    ensures { OnOk result (Written file.now (W.contents output.old) (W.contents output.new)
+        (E.contents errors.old) (E.contents errors.new)) }
 {
     let mut lines = [0u8; LINES];
     let mut reports = [0u8; REPORTS];
     write_list(file, output, errors, &mut lines, &mut reports)
 }
 
-// The program's body, which says whether all was read and written; if not, that is told. Nothing is written before all is read, so a read that fails
-// leaves no record said as done.
-pub fn run<R: Read, W: Write, E: Write>(input: &mut R, output: &mut W, errors: &mut E) -> bool
-    ensures { result ≡ true → Answered (R.remaining input.old) (R.remaining input.new)
-        (W.contents output.old) (W.contents output.new) (E.contents errors.old) (E.contents errors.new) }
+// The program's body. What fails, to be read or to be written, is told. Nothing is written before all is read, so a read that fails leaves no record
+// said as done.
+pub fn run<R: Read, W: Write, E: Write>(
+    input: &mut R,
+    output: &mut W,
+    errors: &mut E,
+) -> io::Result<()>
+    ensures { OnOk result (Answered (R.remaining input.old) (R.remaining input.new)
+        (W.contents output.old) (W.contents output.new) (E.contents errors.old) (E.contents errors.new)) }
 {
     let mut buffer = [0u8; LONGEST + 1];
-    let Reading::Done(n) = read_all(input, &mut buffer) else {
-        write_all(
-            errors,
-            b"stations: the list cannot be read; nothing was done\n",
-        );
-        return false;
-    };
+    let n = or_tell(
+        read_all(input, &mut buffer),
+        errors,
+        b"stations: the list cannot be read; nothing was done\n",
+    )?;
     answer(&buffer[..n], output, errors)
 }

@@ -4,12 +4,12 @@ use mathlib.Core.Path.{◌≡◌, refl, sym, ap, ◌∙◌}
 use mathlib.Core.Bool.{true, false}
 use mathlib.Core.List.{List, [], ◌∷◌, map, append-nil}
 use native.Mathlib.Omega.{arith}
+use Rattle.std.specs.Prelude.{Err}
 use lib.ListN.{length, length-map}
 use Rattle.order.specs.Lists.{count, every, filter, join}
 use Rattle.order.proofs.Lists.{length_filter}
-use Rattle.table.specs.declared.given.Given.{Given}
-use Rattle.table.specs.declared.given.Given.TheVariants.{SheetTooLong}
-use Rattle.table.specs.Given.{number_given}
+use Rattle.table.specs.declared.given.Refusal.TheVariants.{SheetTooLong}
+use Rattle.table.specs.Given.{Given, number_given}
 use Rattle.limits.proofs.Refused.{by_done}
 use Rattle.sheet.specs.Bytes.{Bytes, TAB, FEED, lines_of, fields_of}
 use Rattle.sheet.proofs.Parted.{lines_none}
@@ -111,4 +111,4 @@ alone : (text : Bytes) → without FEED text ≡ true → lines_of (as_line text
 alone text e = ap lines_of (sym (append-nil (as_line text))) ∙ lines_first text [] e ∙ ap (λ ls. text ∷ ls) lines_none
 
 pub too_long : TooLong
-too_long file h = rw (sheet_long file h, reports_long file h) (lines_none, alone (report_text 0 SheetTooLong) (report_line 0 SheetTooLong))
+too_long file h = rw (sheet_long file h, reports_long file h) (lines_none, alone (report_text 0 (Err SheetTooLong)) (report_line 0 (Err SheetTooLong)))

@@ -4,27 +4,21 @@ use mathlib.Core.Path.{◌≡◌, refl, sym, ap, subst, ◌∙◌}
 use mathlib.Core.List.{[], ◌∷◌, ◌++◌, append-nil, append_assoc}
 use native.Mathlib.Omega.{arith}
 use native.Mathlib.Numerals.{add-one}
-use lib.ListN.{length, take, set, get_or, length-append}
+use lib.ListN.{length, take, get_or, length-append}
 use lib.Seq.{take-suc, length-take-le}
 use Rattle.sheet.specs.Bytes.{Bytes, TAB, FEED}
 use Rattle.jobs.specs.Job.{ENROL}
-use Rattle.slip.specs.Output.{tabbed, laid_at, Laid}
-use Rattle.slip.proofs.Laid.{laid_length, laid_none, laid_one, laid_more, laid_then}
+use Rattle.slip.specs.Output.{tabbed, Laid}
+use Rattle.slip.proofs.Laid.{laid_none, laid_room, laid_then}
 use Rattle.slip.proofs.Decimal.{tabbed_append}
 use Rattle.roster.specs.Roster.{as_line}
 
-pub copied : (out : Bytes) (at : ℕ) (bytes : Bytes) (i : ℕ) (here : Bytes) → here ≡ laid_at out at (take i bytes) → i < length bytes
-    → at + length bytes ≤ length out → set here (at + i) (get_or bytes i 0) ≡ laid_at out at (take (i + 1) bytes)
-copied out at bytes i here e l room =
-    let b = get_or bytes i 0 in
-    let n = length-take-le i bytes (omega arith) in
-    let long = laid_length out at (take i bytes) (omega (arith, n)) in
-    let place : at + length (take i bytes) ≡ at + i = omega (arith, n) in
-    ap (λ (o : Bytes). set o (at + i) b) e
-    ∙ laid_one (laid_at out at (take i bytes)) (at + i) b (omega (arith, long))
-    ∙ ap (λ (k : ℕ). laid_at (laid_at out at (take i bytes)) k (b ∷ [])) (sym place)
-    ∙ laid_more out at (take i bytes) (b ∷ []) (omega (arith, n))
-    ∙ ap (laid_at out at) (sym (take-suc bytes i 0 l) ∙ ap (λ (k : ℕ). take k bytes) (sym (add-one i)))
+-- a run of some of the bytes, and the next byte behind it
+pub byte_more : {out mid left : Bytes} {at n m : ℕ} (bytes : Bytes) (i : ℕ) → i < length bytes → at + length bytes ≤ length out
+    → Laid out at (take i bytes) mid n → Laid mid n (get_or bytes i 0 ∷ []) left m → Laid out at (take (i + 1) bytes) left m
+byte_more {out} {mid} {left} {at} {n} {m} bytes i l room p q =
+    rw (add-one, take-suc bytes i 0 l)
+    (laid_then out at (take i bytes) mid n (get_or bytes i 0 ∷ []) left m (omega (arith, length-take-le i bytes)) p q)
 
 -- a field after its tab
 pub tabbed_one : {out mid left : Bytes} {at n m : ℕ} {bytes f : Bytes} → bytes ≡ f → at + (1 + length f) ≤ length out
@@ -33,8 +27,11 @@ tabbed_one {out} {mid} {left} {at} {n} {m} {bytes} {f} e room t l =
     let whole : f ++ [] ≡ bytes = append-nil f ∙ sym e in
     rw whole (laid_then out at (TAB ∷ []) mid n bytes left m (omega (arith, ap length e)) t l)
 
-pub tab_length : (f : Bytes) {out left : Bytes} {at n : ℕ} → Laid out at (tabbed (f ∷ [])) left n → n ≡ at + (1 + length f)
-tab_length f l = omega (arith, l.behind, length-append f [])
+pub tab_room : (f : Bytes) {out left : Bytes} {at n : ℕ} → Laid out at (tabbed (f ∷ [])) left n → at + (1 + length f) ≤ length out
+    → (n ≡ at + (1 + length f)) × (length left ≡ length out)
+tab_room f l room =
+    let long : length (tabbed (f ∷ [])) ≤ 1 + length f = omega (arith, length-append f []) in
+    (omega (arith, l.behind, length-append f []), (laid_room (1 + length f) l long room).1)
 
 -- the letter, three fields, the line feed
 pub three_fields : (out : Bytes) (at : ℕ) (f g h : Bytes) {a b c d left : Bytes} {i j k l next : ℕ}
@@ -66,6 +63,9 @@ pub record SoFar (before whole rest out : Bytes) (filled : ℕ) : Type 0 where
 
 pub so_far_none : (out whole : Bytes) → SoFar out whole whole out 0
 so_far_none out whole = record { bytes = []; laid = nothing_laid out 0; goes = refl }
+
+pub so_far_long : {before whole rest out : Bytes} {n : ℕ} → SoFar before whole rest out n → n ≤ length before → length out ≡ length before
+so_far_long {n = n} s room = (laid_room n s.laid (omega (arith, s.laid.behind)) (omega arith)).1
 
 pub so_far_more : {before whole rest rest' run out left : Bytes} {n m : ℕ} → rest ≡ run ++ rest' → SoFar before whole rest out n
     → n + length run ≤ length before → Laid out n run left m → SoFar before whole rest' left m

@@ -5,12 +5,13 @@ use mathlib.Core.List.{[], ◌++◌}
 use native.Mathlib.Omega.{arith}
 use native.Mathlib.Decide.{dec_lt}
 use mathlib.Core.Logic.{◌⊎◌, inl, inr, ⊎_elim}
+use Rattle.std.specs.Prelude.{Err}
 use lib.ListN.{length, drop, length-append}
 use lib.Seq.{length-take-le}
 use borrow.Author.Tests.{lt-ltb, le-ltb}
 use Rattle.order.specs.Lists.{join}
 use Rattle.sheet.specs.Bytes.{Bytes, LONGEST}
-use Rattle.table.specs.declared.given.Given.TheVariants.{SheetTooLong}
+use Rattle.table.specs.declared.given.Refusal.TheVariants.{SheetTooLong}
 use Rattle.cuts.specs.declared.parts.Mark.TheVariants.{LineEnd}
 use Rattle.cuts.specs.Cuts.{end_of, records_of}
 use Rattle.cuts.specs.Places.{stop_at, part_at, next_at}
@@ -57,7 +58,7 @@ pub sheet_long : (file : Bytes) → LONGEST < length file → sheet_of file ≡ 
 unfolding sheet_of
 sheet_long file h = rw (lt-ltb LONGEST (length file) h)
 
-pub reports_long : (file : Bytes) → LONGEST < length file → reports_of file ≡ as_line (report_text 0 SheetTooLong)
+pub reports_long : (file : Bytes) → LONGEST < length file → reports_of file ≡ as_line (report_text 0 (Err SheetTooLong))
 unfolding reports_of
 reports_long file h = rw (lt-ltb LONGEST (length file) h)
 

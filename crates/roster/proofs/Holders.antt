@@ -1,24 +1,20 @@
 -- The definition of what a record asks for, over its four fields as they stand, as the code takes them; and the line of a record that is not refused, with its length. Assumes nothing.
 use Prim.Native.Nat.{ℕ, zero, suc, ◌+◌, ◌-◌, ◌^◌, ◌≤◌, ◌<◌}
 use mathlib.Core.Path.{◌≡◌, refl, sym, ap, subst, ◌∙◌}
-use mathlib.Core.Bool.{true, false, cond}
+use mathlib.Core.Bool.{true, false, cond, ◌&&◌}
 use mathlib.Core.List.{List, [], ◌∷◌, ◌++◌, map}
 use native.Mathlib.Omega.{arith}
+use Rattle.std.specs.Prelude.{Option, Some, None, is_some, Err}
 use lib.Dec.{ltb}
 use lib.IntN.{ℤ}
-use lib.ListN.{length, get_or, take, drop, length-append, length-take, length-drop, drop_of_length-le}
-use lib.Seq.{drop-cons}
-use native.Mathlib.Numerals.{add-one}
+use lib.ListN.{length, get_or, take, drop, length-append, length-take, length-drop}
 use borrow.Author.Tests.{ltb-true}
 use Rattle.order.specs.Lists.{every}
 use Rattle.order.proofs.Lists.{by_bool, and_left, and_right}
-use Rattle.table.specs.declared.given.Given.{Given}
-use Rattle.table.specs.declared.given.Given.TheVariants as variant
-use Rattle.table.specs.Given.{number_given, if_done}
+use Rattle.table.specs.declared.given.Refusal.TheVariants as refusal
+use Rattle.table.specs.Given.{Given, Done, number_given, if_done}
 use Rattle.limits.proofs.Refused.{if_refused, if_either, given_most}
 use Rattle.sheet.specs.Bytes.{Bytes, FEED}
-use Rattle.jobs.specs.declared.number.Read.{Read}
-use Rattle.jobs.specs.declared.number.Read.TheVariants.{Number, NoNumber}
 use Rattle.jobs.specs.declared.job.Job.{Job}
 use Rattle.jobs.specs.declared.job.Job.TheVariants.{Enrol, Misshapen}
 use Rattle.jobs.specs.Number.{read_number}
@@ -31,7 +27,7 @@ use Rattle.csv_grammar.specs.Grammar.{is_field, unquoted, is_record, said_by}
 use Rattle.csv_grammar.specs.Reading.{is_around, bare_of}
 use Rattle.roster.specs.Asked.{from_fields, asked_by, given_for, given_of}
 use Rattle.roster.specs.Roster.{enrol_text, report_text, as_line, line_for, report_for}
-use Rattle.roster.proofs.Numerals.{is_number, read_bare, said_bare}
+use Rattle.roster.proofs.Numerals.{read_bare, said_bare}
 
 -- ---- what a record asks for
 
@@ -84,22 +80,22 @@ pub record Holder (item : Bytes) : Type 0 where
   pub y : Bytes
   pub name : Bytes
   pub parts : parts_of Comma item ≡ number ∷ x ∷ y ∷ name ∷ []
-  pub numbered : is_number (read_number (unquoted number)) ≡ true
-  pub east : is_number (read_number (unquoted x)) ≡ true
-  pub north : is_number (read_number (unquoted y)) ≡ true
+  pub numbered : is_some (read_number (unquoted number)) ≡ true
+  pub east : is_some (read_number (unquoted x)) ≡ true
+  pub north : is_some (read_number (unquoted y)) ≡ true
   pub sound : every is_field (number ∷ x ∷ y ∷ name ∷ []) ≡ true
 
 -- a misshapen record is refused
-refused : {A : Type 0} → variant.Misshapen ≡ variant.Done → A
+refused : {A : Type 0} → Err refusal.Misshapen ≡ Done → A
 refused e = absurd (omega (arith, ap number_given e))
 
 -- a number is needed
-asked_number : (r : Read) (next : ℤ → Job) → given_for (with_number r next) ≡ variant.Done → (z : ℤ) × ((r ≡ Number z) × (given_for (next z) ≡ variant.Done))
-asked_number (Number z) next e = (z, (refl, e))
-asked_number NoNumber next e = refused e
+asked_number : (r : Option ℤ) (next : ℤ → Job) → given_for (with_number r next) ≡ Done → (z : ℤ) × ((r ≡ Some z) × (given_for (next z) ≡ Done))
+asked_number (Some z) next e = (z, (refl, e))
+asked_number None next e = refused e
 
 holder_of : (item : Bytes) (ps : List Bytes) → parts_of Comma item ≡ ps → every is_field ps ≡ true
-    → given_for (from_fields (map unquoted ps)) ≡ variant.Done → Holder item
+    → given_for (from_fields (map unquoted ps)) ≡ Done → Holder item
 holder_of item [] p s e = refused e
 holder_of item (n ∷ []) p s e = refused e
 holder_of item (n ∷ x ∷ []) p s e = refused e
@@ -114,22 +110,22 @@ holder_of item (n ∷ x ∷ y ∷ name ∷ []) p s e =
       y = y;
       name = name;
       parts = p;
-      numbered = ap is_number first.1.0;
-      east = ap is_number second.1.0;
-      north = ap is_number third.1.0;
+      numbered = ap is_some first.1.0;
+      east = ap is_some second.1.0;
+      north = ap is_some third.1.0;
       sound = s;
     }
 holder_of item (n ∷ x ∷ y ∷ name ∷ z ∷ more) p s e = refused e
 
-pub holder : (item : Bytes) → given_of item ≡ variant.Done → Holder item
+pub holder : (item : Bytes) → given_of item ≡ Done → Holder item
 unfolding given_of asked_by is_record said_by
 holder item e =
-    by_bool (λ t. every is_field (parts_of Comma item) ≡ t → given_for (cond t (from_fields (map unquoted (parts_of Comma item))) Misshapen) ≡ variant.Done → Holder item)
+    by_bool (λ t. every is_field (parts_of Comma item) ≡ t → given_for (cond t (from_fields (map unquoted (parts_of Comma item))) Misshapen) ≡ Done → Holder item)
     (every is_field (parts_of Comma item))
     (λ _ s g. holder_of item (parts_of Comma item) refl s g) (λ _ _ g. refused g) refl e
 
 -- its line: the stretches between the quote marks
-pub line_parts : (item : Bytes) → given_of item ≡ variant.Done
+pub line_parts : (item : Bytes) → given_of item ≡ Done
     → let ps = parts_of Comma item in
     line_for item ≡ as_line (ENROL ∷ tabbed (bare_of (get_or ps 0 []) ∷ bare_of (get_or ps 1 []) ∷ bare_of (get_or ps 2 []) ∷ []))
 unfolding line_for enrol_text said_by
@@ -173,7 +169,7 @@ bare_most field =
     (λ _. omega (arith, length-take (length field - 2) (drop 1 field), length-drop 1 field)) (λ _. omega arith)
 
 -- no more bytes than the record, and two for a line end
-pub stretches_room : (item : Bytes) → given_of item ≡ variant.Done
+pub stretches_room : (item : Bytes) → given_of item ≡ Done
     → let ps = parts_of Comma item in
     length (bare_of (get_or ps 0 [])) + (length (bare_of (get_or ps 1 [])) + length (bare_of (get_or ps 2 []))) + 3 ≤ length item
 stretches_room item e =
@@ -181,35 +177,33 @@ stretches_room item e =
     let total = parts_long item in
     rw h.parts (omega (arith, rw h.parts at total, bare_most h.number, bare_most h.x, bare_most h.y))
 
--- ---- field after field
-
-module _ (ps : List Bytes) (i : ℕ) (l : i < length ps) where
-  pub sound_fails : is_field (get_or ps i []) ≡ false → every is_field (drop i ps) ≡ false
-  sound_fails e = rw (drop-cons ps i [] l, e)
-
-  pub sound_on : is_field (get_or ps i []) ≡ true → every is_field (drop (i + 1) ps) ≡ every is_field (drop i ps)
-  sound_on e = rw (drop-cons ps i [] l, e, add-one i)
-
-pub sound_end : (ps : List Bytes) (i : ℕ) → length ps ≤ i → every is_field (drop i ps) ≡ true
-sound_end ps i l = rw (drop_of_length-le ps l)
+-- the four fields, each tested at its place
+pub four_sound : (ps : List Bytes) → length ps ≡ 4
+    → (is_field (get_or ps 0 []) && (is_field (get_or ps 1 []) && (is_field (get_or ps 2 []) && (is_field (get_or ps 3 []) && true)))) ≡ every is_field ps
+four_sound [] e = absurd (omega arith)
+four_sound (n ∷ []) e = absurd (omega arith)
+four_sound (n ∷ x ∷ []) e = absurd (omega arith)
+four_sound (n ∷ x ∷ y ∷ []) e = absurd (omega arith)
+four_sound (n ∷ x ∷ y ∷ name ∷ []) e = refl
+four_sound (n ∷ x ∷ y ∷ name ∷ z ∷ more) e = absurd (omega arith)
 
 -- ---- one record, by what it is given
 
 module _ (item : Bytes) {g : Given} (e : g ≡ given_of item) where
-  pub line_refused : (g ≡ variant.Done → ⊥) → line_for item ≡ []
+  pub line_refused : (g ≡ Done → ⊥) → line_for item ≡ []
   unfolding line_for
   line_refused n = if_refused (given_of item) (λ d. n (e ∙ d)) (as_line (enrol_text (said_by item))) []
 
-  pub report_refused : (number : ℕ) → (g ≡ variant.Done → ⊥) → report_for number item ≡ as_line (report_text number g)
+  pub report_refused : (number : ℕ) → (g ≡ Done → ⊥) → report_for number item ≡ as_line (report_text number g)
   unfolding report_for
   report_refused number n =
       if_refused (given_of item) (λ d. n (e ∙ d)) [] (as_line (report_text number (given_of item))) ∙ ap (λ h. as_line (report_text number h)) (sym e)
 
-  pub report_granted : (number : ℕ) → g ≡ variant.Done → report_for number item ≡ []
+  pub report_granted : (number : ℕ) → g ≡ Done → report_for number item ≡ []
   unfolding report_for
   report_granted number d = rw (sym e ∙ d)
 
-granted_most : (item : Bytes) → given_of item ≡ variant.Done → length (line_for item) ≤ 2 + length item
+granted_most : (item : Bytes) → given_of item ≡ Done → length (line_for item) ≤ 2 + length item
 granted_most item d =
     let ps = parts_of Comma item in
     rw (line_parts item d)

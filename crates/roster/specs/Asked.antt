@@ -1,10 +1,9 @@
 -- 02 §5: a record has number, x, y and a free name. "Refusals: 11 for a record that breaks the grammar, has other than four fields
 -- or a misshapen number, then 3, 4." A number has 01's form once unquoted.
-use Rattle.std.specs.Prelude.{ℕ, cond, List, [], ◌∷◌}
+use Rattle.std.specs.Prelude.{ℕ, cond, Err, List, [], ◌∷◌}
 use Rattle.grid.specs.Site.{site}
-use Rattle.table.specs.declared.given.Given.{Given}
-use Rattle.table.specs.declared.given.Given.TheVariants as given
-use Rattle.table.specs.Given.{line, first_of}
+use Rattle.table.specs.declared.given.Refusal.TheVariants as refusal
+use Rattle.table.specs.Given.{Given, line, first_of}
 use Rattle.limits.specs.Limits.{no_such_number, off_grid}
 use Rattle.sheet.specs.Bytes.{Bytes}
 use Rattle.jobs.specs.declared.job.Job.{Job}
@@ -30,12 +29,12 @@ asked_by item = cond (is_record item) (from_fields (said_by item)) Misshapen
 
 -- what it is refused with: 11, then 3, then 4
 abbrev pub given_for : Job → Given
-given_for (Enrol n x y) = first_of (line (no_such_number n) given.NoSuchNumber ∷ line (off_grid (site x y)) given.OffGrid ∷ [])
-given_for (Withdraw n) = given.Misshapen
-given_for (Query x y k) = given.Misshapen
-given_for (Card n k) = given.Misshapen
-given_for (MissingK letter) = given.Misshapen
-given_for Misshapen = given.Misshapen
+given_for (Enrol n x y) = first_of (line (no_such_number n) refusal.NoSuchNumber ∷ line (off_grid (site x y)) refusal.OffGrid ∷ [])
+given_for (Withdraw n) = Err refusal.Misshapen
+given_for (Query x y k) = Err refusal.Misshapen
+given_for (Card n k) = Err refusal.Misshapen
+given_for (MissingK letter) = Err refusal.Misshapen
+given_for Misshapen = Err refusal.Misshapen
 
 unfoldable pub given_of : Bytes → Given
 given_of item = given_for (asked_by item)

@@ -1,7 +1,7 @@
 -- Each record behind the header comes through exactly once: it is a line on the output or a report on the error stream, both in file order.
-use Rattle.std.specs.Prelude.{ℕ, ◌+◌, ◌≤◌, ◌<◌, ◌≡◌, Bool, true, false, List, [], ◌∷◌, ◌++◌, map, length}
+use Rattle.std.specs.Prelude.{ℕ, ◌+◌, ◌≤◌, ◌<◌, ◌≡◌, Bool, true, false, Err, List, [], ◌∷◌, ◌++◌, map, length}
 use Rattle.order.specs.Lists.{filter}
-use Rattle.table.specs.declared.given.Given.TheVariants.{SheetTooLong}
+use Rattle.table.specs.declared.given.Refusal.TheVariants.{SheetTooLong}
 use Rattle.table.specs.Given.{if_done}
 use Rattle.sheet.specs.Bytes.{Bytes, LONGEST, lines_of}
 use Rattle.jobs.specs.Job.{job_of}
@@ -33,4 +33,4 @@ AllOnce = (file : Bytes) → length file ≤ LONGEST → EachOnce file
 
 -- of a longer file nothing comes through, and one report says so
 abbrev pub TooLong : Type 0
-TooLong = (file : Bytes) → LONGEST < length file → (lines_of (sheet_of file) ≡ []) × (lines_of (reports_of file) ≡ report_text 0 SheetTooLong ∷ [])
+TooLong = (file : Bytes) → LONGEST < length file → (lines_of (sheet_of file) ≡ []) × (lines_of (reports_of file) ≡ report_text 0 (Err SheetTooLong) ∷ [])

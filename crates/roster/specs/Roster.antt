@@ -1,9 +1,8 @@
 -- 02 §5: what a station list becomes, on the output and on the error stream.
-use Rattle.std.specs.Prelude.{ℕ, ◌+◌, cond, List, [], ◌∷◌, ◌++◌, ltb, length, take, drop}
+use Rattle.std.specs.Prelude.{ℕ, ◌+◌, cond, Err, List, [], ◌∷◌, ◌++◌, ltb, length, take, drop}
 use Rattle.order.specs.Lists.{join}
-use Rattle.table.specs.declared.given.Given.{Given}
-use Rattle.table.specs.declared.given.Given.TheVariants.{SheetTooLong}
-use Rattle.table.specs.Given.{number_given, if_done}
+use Rattle.table.specs.declared.given.Refusal.TheVariants.{SheetTooLong}
+use Rattle.table.specs.Given.{Given, number_given, if_done}
 use Rattle.sheet.specs.Bytes.{Bytes, FEED, LONGEST}
 use Rattle.jobs.specs.Job.{ENROL}
 use Rattle.slip.specs.Output.{decimal, tabbed}
@@ -45,4 +44,4 @@ sheet_of file = cond (ltb LONGEST (length file)) [] (join line_for (holders_in f
 
 -- the error stream: the reports in file order; of a file over 65,536 bytes 12 alone, with record number 0
 unfoldable pub reports_of : Bytes → Bytes
-reports_of file = cond (ltb LONGEST (length file)) (as_line (report_text 0 SheetTooLong)) (reports_from 1 (holders_in file))
+reports_of file = cond (ltb LONGEST (length file)) (as_line (report_text 0 (Err SheetTooLong))) (reports_from 1 (holders_in file))

@@ -10,16 +10,17 @@ ghost use Rattle.roster.specs.Asked.{FIELDS, asked_by, given_for};
 use csv_grammar::bare::bare;
 use csv_grammar::grammar::is_field;
 use cuts::fields::{field, field_count};
+use grid::site::Site;
 use jobs::job::Job;
-use jobs::number::{Read, read_number};
+use jobs::number::read_number;
 use limits::{no_such_number, off_grid};
-use table::given::Given;
+use table::given::{Given, Refusal};
 
 // Number, x, y and a free name.
 const FIELDS: usize = 4;
 
 // The number in field i of a record, or that it is none. Where two quote marks stand for one there is no number, read as one or not.
-fn number_in(item: &[u8], i: usize) -> Read
+fn number_in(item: &[u8], i: usize) -> Option<i32>
     ensures { result ≡ read_number (bare_of (get_or (parts_of Comma item.now) i [])) }
 {
     read_number(bare(field(item, i)))
@@ -30,14 +31,7 @@ fn is_sound(item: &[u8]) -> bool
     requires { length (parts_of Comma item.now) ≡ FIELDS }
     ensures { result ≡ is_record item.now }
 {
-    let mut i = 0;
-    while i < FIELDS {
-        if !is_field(field(item, i)) {
-            return false;
-        }
-        i += 1;
-    }
-    true
+    (0..FIELDS).all(|i| is_field(field(item, i)))
 }
 
 // What a record asks for: the enrolment of a holder, or it is misshapen. The name is read by nobody.
@@ -50,13 +44,13 @@ pub fn asked_by(item: &[u8]) -> Job
     if !is_sound(item) {
         return Job::Misshapen;
     }
-    let Read::Number(number) = number_in(item, 0) else {
+    let Some(number) = number_in(item, 0) else {
         return Job::Misshapen;
     };
-    let Read::Number(x) = number_in(item, 1) else {
+    let Some(x) = number_in(item, 1) else {
         return Job::Misshapen;
     };
-    let Read::Number(y) = number_in(item, 2) else {
+    let Some(y) = number_in(item, 2) else {
         return Job::Misshapen;
     };
     Job::Enrol(number, x, y)
@@ -67,13 +61,13 @@ pub fn given_for(asked: Job) -> Given
     ensures { result ≡ given_for asked }
 {
     let Job::Enrol(number, x, y) = asked else {
-        return Given::Misshapen;
+        return Err(Refusal::Misshapen);
     };
     if no_such_number(number) {
-        return Given::NoSuchNumber;
+        return Err(Refusal::NoSuchNumber);
     }
-    if off_grid(x, y) {
-        return Given::OffGrid;
+    if off_grid(Site { x, y }) {
+        return Err(Refusal::OffGrid);
     }
-    Given::Done
+    Ok(())
 }

@@ -1,10 +1,12 @@
 -- The laws of marks: one step of the search for a mark, and the parts that the marks leave, by recursion on the bytes. Assumes nothing.
 use Prim.Native.Nat.{ℕ, zero, suc, ◌+◌, ◌-◌, ◌≤◌, ◌<◌}
-use mathlib.Core.Path.{◌≡◌, refl, sym, ◌∙◌}
+use mathlib.Core.Path.{◌≡◌, refl, sym, ap, ◌∙◌}
 use mathlib.Core.Bool.{cond}
 use mathlib.Core.List.{List, [], ◌∷◌}
 use native.Mathlib.Omega.{arith}
 use native.Mathlib.Numerals.{add-one, one-add}
+use Rattle.std.specs.List.{count_by}
+use Rattle.std.proofs.lemmas.List.Recursion.{is_count_by}
 use lib.Dec.{eqb, ltb, leb-suc-suc}
 use lib.ListN.{length, take, drop, get_or, length-take, length-drop, drop_of_length-le}
 use lib.Seq.{drop-cons, drop-drop}
@@ -123,17 +125,18 @@ module _ (mark : ℕ) where
       (λ l. rw (parted_more bs at l))
       (λ l. rw (parted_last bs at l, drop_of_length-le bs l) (sym (beyond k)))
 
-  -- one more part for each mark
-  pub count_mark : (bs : Bytes) (i : ℕ) → i < length bs → get_or bs i 0 ≡ mark
-      → length (parted_by mark (drop i bs)) ≡ suc (length (parted_by mark (drop (i + 1) bs)))
-  count_mark bs i l e = rw (drop-cons bs i 0 l, eq-eqb _ _ e, add-one i)
+  -- one more part than there are marks
+  behind_first : (bs : Bytes) → length (parted_by mark bs) - 1 ≡ count_by (λ b. eqb b mark) bs
+  behind_first bs =
+      is_count_by (λ bs. length (parted_by mark bs) - 1) (λ b. eqb b mark) refl
+      (λ b bs.
+      by_bool
+      (λ t. length (cond t ([] ∷ parted_by mark bs) (in_front b (parted_by mark bs))) - 1 ≡ cond t (1 + (length (parted_by mark bs) - 1)) (length (parted_by mark bs) - 1))
+      (eqb b mark) (λ _. omega (arith, ap length (parted bs))) (λ _. rw (parted bs)))
+      bs
 
-  pub count_other : (bs : Bytes) (i : ℕ) → i < length bs → (get_or bs i 0 ≡ mark → ⊥)
-      → length (parted_by mark (drop i bs)) ≡ length (parted_by mark (drop (i + 1) bs))
-  count_other bs i l e = rw (drop-cons bs i 0 l, ne_eqb _ _ e, add-one i, parted (drop (suc i) bs))
-
-  pub count_end : (bs : Bytes) (i : ℕ) → length bs ≤ i → length (parted_by mark (drop i bs)) ≡ 1
-  count_end bs i l = rw (drop_of_length-le bs l)
+  pub marks_counted : (bs : Bytes) → 1 + count_by (λ b. eqb b mark) bs ≡ length (parted_by mark bs)
+  marks_counted bs = omega (arith, behind_first bs, ap length (parted bs))
 
 -- ---- the lines
 

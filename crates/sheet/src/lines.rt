@@ -5,6 +5,7 @@ ghost use Rattle.sheet.specs.Marks.{line_of, next_of};
 use crate::marks::{FEED, next_from, stop_from};
 
 // The line that starts at a place, as a part of the sheet: up to its line feed, which the last line may lack.
+#[tactic(auto, using(crate::proofs::Parted::stop_within))]
 pub fn line_at(sheet: &[u8], at: usize) -> &[u8]
     requires { at ≤ length sheet.now }
     ensures { result.now ≡ line_of sheet.now at }

@@ -13,17 +13,16 @@ pub const LONGEST: usize = 65536;
 pub(crate) fn stop_from(bytes: &[u8], at: usize, mark: u8) -> usize
     ensures { result ≡ stop_from mark bytes.now at }
 {
-    let mut i = at;
-    while i < bytes.len() {
+    for i in at..bytes.len() {
         if bytes[i] == mark {
             return i;
         }
-        i += 1;
     }
-    i
+    at.max(bytes.len())
 }
 
 // The place behind the first mark from a place on, or the end.
+#[tactic(auto, using(crate::proofs::Parted::next_more, crate::proofs::Parted::next_last))]
 pub(crate) fn next_from(bytes: &[u8], at: usize, mark: u8) -> usize
     ensures { result ≡ next_from mark bytes.now at }
 {

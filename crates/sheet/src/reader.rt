@@ -1,5 +1,5 @@
 // The reader of a sheet: the sheet's bytes and the place in them, kept together.
-// Its functions take it apart and ask sheet::lines. Above them stand two with plain parameters, which a loop over lines calls.
+// Its methods take it apart and ask sheet::lines. Above them stand two functions with plain parameters, which a loop over lines calls.
 ghost use Rattle.std.specs.Prelude.{◌≡◌, ◌≤◌, length};
 ghost use Rattle.sheet.specs.Marks.{line_of, next_of};
 
@@ -12,29 +12,28 @@ pub struct Reader<'a> {
     pub at: usize,
 }
 
-// A reader at a place of a sheet.
-pub fn reader_at<'a>(sheet: &'a [u8], at: usize) -> Reader<'a>
-    ensures { (result.sheet ≡ sheet.entry) × (result.at ≡ at) }
-{
-    Reader { sheet, at }
-}
+impl<'a> Reader<'a> {
+    // A reader at a place of a sheet.
+    pub fn at(sheet: &'a [u8], at: usize) -> Reader<'a>
+        ensures { (result.sheet ≡ sheet.entry) × (result.at ≡ at) }
+    {
+        Reader { sheet, at }
+    }
 
-// The line that starts at the reader's place, as a part of the sheet.
-pub fn line<'a>(reader: Reader<'a>) -> &'a [u8]
-    requires { reader.at ≤ length reader.sheet.now }
-    ensures { result.now ≡ line_of reader.entry.sheet.now reader.entry.at }
-{
-    line_at(reader.sheet, reader.at)
-}
+    // The line that starts at the reader's place, as a part of the sheet.
+    pub fn line(self) -> &'a [u8]
+        requires { self.at ≤ length self.sheet.now }
+        ensures { result.now ≡ line_of self.entry.sheet.now self.entry.at }
+    {
+        line_at(self.sheet, self.at)
+    }
 
-// The reader behind that line.
-pub fn next_line<'a>(reader: Reader<'a>) -> Reader<'a>
-    ensures { (result.sheet ≡ reader.entry.sheet) × (result.at ≡ next_of reader.entry.sheet.now reader.entry.at) }
-{
-    let at = next_at(reader.sheet, reader.at);
-    Reader {
-        sheet: reader.sheet,
-        at,
+    // The reader behind that line.
+    pub fn next(self) -> Reader<'a>
+        ensures { (result.sheet ≡ self.entry.sheet) × (result.at ≡ next_of self.entry.sheet.now self.entry.at) }
+    {
+        let at = next_at(self.sheet, self.at);
+        Reader { at, ..self }
     }
 }
 
@@ -43,13 +42,12 @@ pub fn line_here(sheet: &[u8], at: usize) -> &[u8]
     requires { at ≤ length sheet.now }
     ensures { result.now ≡ line_of sheet.now at }
 {
-    line(reader_at(sheet, at))
+    Reader::at(sheet, at).line()
 }
 
 // The place where the next line starts.
 pub fn next_here(sheet: &[u8], at: usize) -> usize
     ensures { result ≡ next_of sheet.now at }
 {
-    let behind = next_line(reader_at(sheet, at));
-    behind.at
+    Reader::at(sheet, at).next().at
 }

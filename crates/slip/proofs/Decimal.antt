@@ -49,16 +49,20 @@ pub decimal_most : (n : ℕ) → length (decimal n) ≤ 20
 unfolding decimal
 decimal_most n = places_most 20 n
 
-pub decimal_least : (n : ℕ) → 1 ≤ length (decimal n)
-unfolding decimal
-decimal_least n =
-    by_bool (λ t. 1 ≤ length (places_of 19 n t)) (ltb n 10) (λ _. omega arith) (λ _. rw length-append (omega arith))
-
 pub count_small : (n : ℕ) → n < 10 → length (decimal n) ≡ 1
 count_small n h = rw (decimal_small n h)
 
 pub count_more : (n : ℕ) → n < 10 ^ 20 → 10 ≤ n → length (decimal n) ≡ suc (length (decimal (n / 10)))
 count_more n h l = rw (decimal_more n h l, length-append) (omega arith)
+
+-- by the highest power of ten in it
+pub count_power : (k n : ℕ) → n < 10 ^ 20 → 10 ^ k ≤ n → n < 10 * 10 ^ k → length (decimal n) ≡ k + 1
+count_power zero n h l m = count_small n (omega arith)
+count_power (suc k) n h l m =
+    let power : 10 ^ suc k ≡ 10 * 10 ^ k = pow-succ' 10 k in
+    let least : 0 ≤ k = omega arith in
+    let some : 10 ^ 0 ≤ 10 ^ k = pow-le-pow_right (omega arith) least in
+    omega (arith, count_more n h (omega arith), count_power k (n / 10) (omega arith) (omega arith) (omega arith))
 
 -- a number below a power of ten has no more digits than that
 pub decimal_few : (k n : ℕ) → k ≤ 19 → n < 10 ^ suc k → length (decimal n) ≤ suc k

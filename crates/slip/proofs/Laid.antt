@@ -66,9 +66,10 @@ laid_last out at ds d h =
     ∙ ap (λ (l : Bytes). take at out ++ (ds ++ l)) back
     ∙ rw whole (simp append_assoc)
 
--- how far a function has come, by how much it laid at most
-pub laid_within : {out : Bytes} {at : ℕ} {bs left : Bytes} {next : ℕ} (k : ℕ) → Laid out at bs left next → length bs ≤ k → next ≤ at + k
-laid_within k l h = omega arith
+-- how far a run of at most k bytes goes, and that the buffer keeps its length
+pub laid_room : {out : Bytes} {at : ℕ} {bs left : Bytes} {next : ℕ} (k : ℕ) → Laid out at bs left next → length bs ≤ k → at + k ≤ length out
+    → (next ≤ at + k) × (length left ≡ length out)
+laid_room k l few room = (omega arith, ap length l.laid ∙ laid_length _ _ _ (omega arith))
 
 -- what two functions lay one after the other
 pub laid_then : (out : Bytes) (at : ℕ) (xs mid : Bytes) (n : ℕ) (ys left : Bytes) (m : ℕ) → at + (length xs + length ys) ≤ length out

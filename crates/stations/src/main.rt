@@ -2,5 +2,5 @@
 #![tactic(auto)]
 
 fn main(rt: HostRuntime) {
-    registry::run(&mut rt.stdin(), &mut rt.stdout(), &mut rt.stderr());
+    let _ = registry::run(&mut rt.stdin(), &mut rt.stdout(), &mut rt.stderr());
 }

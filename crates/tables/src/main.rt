@@ -5,81 +5,69 @@
 ghost use Rattle.std.specs.Prelude.{◌≤◌, length};
 
 use figures::Table;
-use jobs::number::{Read, read_number};
+use jobs::number::read_number;
 use sheet::fields::{field, field_count};
 use sheet::lines::{line_at, next_at};
 use std::io;
 use table::given::number_given;
+use words::border::natural;
 
 // The number in field i, or 0 if it is none.
 fn number_in(line: &[u8], i: usize) -> i32 {
-    let Read::Number(n) = read_number(field(line, i)) else {
-        return 0;
-    };
-    n
+    read_number(field(line, i)).unwrap_or(0)
 }
 
 // A word is set, if there is such a place.
 fn put(words: &mut [i32], at: usize, v: i32) {
-    if at < words.len() {
-        words[at] = v;
+    if let Some(word) = words.get_mut(at) {
+        *word = v;
     }
 }
 
 // Zeros become the empty table's words, with room for more behind.
 fn blank(words: &mut [i32]) {
     put(words, 0, -1);
-    let mut slot = 0;
-    while slot < Table::SLOTS {
+    for slot in 0..Table::SLOTS {
         put(words, 2 + Table::WIDTH * slot, -1);
-        slot += 1;
     }
 }
 
-// The words that a line names, each by its place and its value.
+// The words that a line names behind its length, each by its place and its value.
 fn poke(words: &mut [i32], line: &[u8]) {
-    let count = field_count(line);
-    let mut i = 1;
-    while i < count {
-        // No line of a sheet that was read has so many fields; so the count below cannot wrap.
-        if 65536 < i {
-            return;
-        }
-        let at = words::border::natural(number_in(line, i));
-        put(words, at, number_in(line, i + 1));
-        i += 2;
+    for pair in 0..field_count(line) / 2 {
+        let at = natural(number_in(line, 2 * pair + 1));
+        put(words, at, number_in(line, 2 * pair + 2));
     }
 }
 
-// What the check says of the first so many words.
-fn given_of(words: &[i32], length: usize) -> u8 {
-    if words.len() < length {
-        return 99;
-    }
-    number_given(audit::check(&words[..length]))
+// What the check says of the first so many words, if there are so many.
+fn given_of(words: &[i32], length: usize) -> Option<u8> {
+    let table = words.get(..length)?;
+    Some(number_given(audit::check(table)))
 }
 
-// What the check says of a line's table.
-fn given_for(line: &[u8]) -> u8 {
-    let mut words = [0i32; 10755];
+// What the check says of a line's table, if it is no longer than the room for it.
+fn given_for(line: &[u8]) -> Option<u8> {
+    let mut words = [0i32; Table::LENGTH + 1];
     blank(&mut words);
     poke(&mut words, line);
-    given_of(&words, words::border::natural(number_in(line, 0)))
+    given_of(&words, natural(number_in(line, 0)))
 }
 
-fn say(rt: &impl Print, given: u8) -> io::Result<()> {
-    println!(rt; "{given}")
+// A line whose table has no room is answered by 99, which no check gives.
+fn say(rt: &impl Print, given: Option<u8>) -> io::Result<()> {
+    let number = given.unwrap_or(99);
+    println!(rt; "{number}")
 }
 
 // Reads until the buffer is full, the input ends or a read fails; so many bytes stand at the front of the buffer.
+// Kept: not post::read_all, which hands on the error of a read; here a read that fails ends the input, and what came before it is answered.
 fn read_full<R: io::Read>(reader: &mut R, buffer: &mut [u8]) -> usize
     ensures { result ≤ length buffer.new }
 {
     let mut done = 0;
     while done < buffer.len() {
-        let Ok(more) = reader.read(&mut buffer[done..]) else {
-            return done;
-        };
+        let more = reader.read(&mut buffer[done..]).unwrap_or(0);
         if more == 0 {
             return done;
         }

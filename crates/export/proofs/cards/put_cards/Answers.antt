@@ -17,19 +17,19 @@ use Rattle.export.proofs.cards.put_cards.Goals as goal
 pub returns-then-cards-at-lt-PLACES : goal.returns-then-cards-at-lt-PLACES
 returns-then-cards-at-lt-PLACES c =
     let a = c.args in
-    let l = c.loop-i in
-    let laid = l.invariant.1 in
+    let l = c.loop-number in
+    let laid = l.invariant in
     one_passed (λ k. cards_over a.table.now k a.numbers.now a.cards.now) a.k c.ranges.k
-    (laid_short a.table.now (back a.k) a.numbers.now a.cards.now l.i l.at l.cards laid c.loop-i-test.true (omega (arith, laid.long, laid.within, c.if-cards-at-lt-PLACES.true)))
+    (laid_short a.table.now (back a.k) a.numbers.now a.cards.now l.number-index l.at l.cards laid c.loop-number-test.true (omega (arith, laid.long, laid.within, c.if-cards-at-lt-PLACES.true)))
 
-pub loop-i-preserved : goal.loop-i-preserved
-loop-i-preserved c =
+pub loop-number-preserved : goal.loop-number-preserved
+loop-number-preserved c =
     let a = c.args in
-    let l = c.loop-i in
-    let laid = l.invariant.1 in
+    let l = c.loop-number in
+    let laid = l.invariant in
     let part = mid_of l.at (l.at + 16 - l.at) l.cards in
     let new = c.card_passing.new.list in
-    let fits : SFits w32 (get_or a.numbers.now l.i (pos 0)) = search rules in
-    let listed : new ≡ (after_card a.table.now (get_or a.numbers.now l.i (pos 0)) (back a.k) part).list =
-    one_passed (λ n. (after_card a.table.now n (back a.k) part).list) (get_or a.numbers.now l.i (pos 0)) fits (ap (λ (z : Listed). z.list) c.card_passing.ensures) in
-    (omega (arith, c.loop-i-test.true), laid_next a.table.now (back a.k) a.numbers.now a.cards.now l.i l.at l.cards laid c.loop-i-test.true (omega (arith, c.if-cards-at-lt-PLACES.false, laid.long, laid.within)) new listed c.card_passing.auto.list)
+    let fits : SFits w32 (get_or a.numbers.now l.number-index (pos 0)) = search rules in
+    let listed : new ≡ (after_card a.table.now (get_or a.numbers.now l.number-index (pos 0)) (back a.k) part).list =
+    one_passed (λ n. (after_card a.table.now n (back a.k) part).list) (get_or a.numbers.now l.number-index (pos 0)) fits (ap (λ (z : Listed). z.list) c.card_passing.ensures) in
+    laid_next a.table.now (back a.k) a.numbers.now a.cards.now l.number-index l.at l.cards laid c.loop-number-test.true (omega (arith, c.if-cards-at-lt-PLACES.false, laid.long, laid.within)) new listed c.card_passing.auto.list

@@ -1,10 +1,10 @@
 -- `sites::count_all` meets its contract, by the loop's invariant. Assumes nothing.
-use Prim.Native.Nat.{min}
+use Prim.Native.Nat.{◌<◌, min}
 use native.Mathlib.Omega.{arith}
 use native.Mathlib.Numerals.{add-one}
-use mathlib.Core.Path.{◌≡◌, refl, ◌∙◌}
+use mathlib.Core.Path.{◌≡◌, ◌∙◌}
 use lib.IntN.{pos}
-use lib.ListN.{length, get_or, length-set}
+use lib.ListN.{length, get_or}
 use mir.Syntax.{w32}
 use mir.Val.{SFits}
 use Rattle.grid.specs.Site.{site}
@@ -17,33 +17,21 @@ use Rattle.export.proofs.sites.count_all.Goals as goal
 pub loop-i-init : goal.loop-i-init
 loop-i-init c =
     let a = c.args in
-    (omega arith, refl, counts_start a.table.now (back a.k) a.xs.now a.ys.now a.counts.now, refl, refl, refl, refl, refl, refl)
+    counts_start a.table.now (back a.k) a.xs.now a.ys.now a.counts.now
 
 pub loop-i-preserved : goal.loop-i-preserved
 loop-i-preserved c =
     let a = c.args in
     let l = c.loop-i in
-    let e = l.invariant in
-    let w = c.count_at.auto in
     let xs = a.xs.now in
     let ys = a.ys.now in
     let row = a.counts.now in
-    let shorter : c.lesser-n.result ≡ min (min (length xs) (length ys)) (length row) = omega (arith, c.lesser.ensures, c.lesser-n.ensures) in
+    let below : l.i < min (min (length xs) (length ys)) (length row) = omega arith in
     let fits_x : SFits w32 (get_or xs l.i (pos 0)) = search rules in
     let fits_y : SFits w32 (get_or ys l.i (pos 0)) = search rules in
     let n : c.count_at.result ≡ site_count a.table.now (back a.k) (site (get_or xs l.i (pos 0)) (get_or ys l.i (pos 0))) =
-    two_passed (λ u v. site_count a.table.now (back a.k) (site u v)) (get_or xs l.i (pos 0)) (get_or ys l.i (pos 0)) fits_x fits_y c.count_at.ensures in (
-      omega (arith, c.loop-i-test.true),
-      length-set l.counts l.i c.count_at.result ∙ e.1,
-      rw add-one
-          (counts_step a.table.now (back a.k) xs ys row l.counts l.i c.count_at.result (omega (arith, c.loop-i-test.true, shorter)) (omega (arith, c.loop-i-test.true, shorter)) (omega (arith, c.loop-i-test.true, shorter)) e.2 n),
-      w.numbers ∙ e.3,
-      w.xs ∙ e.4,
-      w.ys ∙ e.5,
-      w.bars ∙ e.6,
-      w.kept ∙ e.7,
-      w.answers ∙ e.8,
-    )
+    two_passed (λ u v. site_count a.table.now (back a.k) (site u v)) (get_or xs l.i (pos 0)) (get_or ys l.i (pos 0)) fits_x fits_y c.count_at.ensures in
+    rw add-one (counts_step a.table.now (back a.k) xs ys row l.counts l.i c.count_at.result (omega arith) (omega arith) (omega arith) l.invariant n)
 
 pub returns : goal.returns
 returns c =
@@ -52,5 +40,5 @@ returns c =
     let xs = a.xs.now in
     let ys = a.ys.now in
     let row = a.counts.now in
-    let n : l.i ≡ min (min (length xs) (length ys)) (length row) = omega (arith, c.lesser.ensures, c.lesser-n.ensures, c.loop-i-test.false, l.invariant.0) in
-    one_passed (λ k. counts_over a.table.now k xs ys row) a.k c.ranges.k (l.invariant.2 ∙ counts_end a.table.now (back a.k) xs ys row l.i n)
+    let n : l.i ≡ min (min (length xs) (length ys)) (length row) = omega arith in
+    one_passed (λ k. counts_over a.table.now k xs ys row) a.k c.ranges.k (l.invariant ∙ counts_end a.table.now (back a.k) xs ys row l.i n)

@@ -1,18 +1,14 @@
--- `listing::listed::answer_listed` meets its contract: the rows that the query left are read back as records, which go to the front of the list.
--- What a callee was passed as x and y is read as `passed`, which is the place asked about. Assumes nothing.
+-- `listing::listed::answer_listed` meets its contract: the rows that the query left are read back as records, which go to the front of the list. Assumes nothing.
 use Rattle.std.proofs.Common.{arith, rules}
 use Prim.Native.Nat.{ℕ}
-use mathlib.Core.Path.{◌≡◌, sym, subst}
+use mathlib.Core.Path.{◌≡◌}
 use mathlib.Core.List.{List}
 use lib.ListN.{length}
-use Rattle.grid.specs.declared.site.Site.{Site}
-use Rattle.grid.proofs.Sites.{SiteOnGrid, site_passed}
+use Rattle.grid.proofs.Sites.{SiteOnGrid}
 use Rattle.table.specs.Words.{Words, points_of}
 use Rattle.rules.specs.Rules.{Passing}
 use Rattle.filter.specs.Rows.{rows}
-use Rattle.asking.specs.Slate.{Slate, Wide}
-use Rattle.asking.specs.Asked.{Askable}
-use Rattle.listing.specs.Listed.{Listed}
+use Rattle.asking.specs.Slate.{Wide}
 use Rattle.listing.proofs.Outcome.{readable, listed_few, lists}
 use Rattle.asking.proofs.Outcome.{points_most}
 use Rattle.listing.proofs.listed.answer_listed.Goals as goal
@@ -27,37 +23,27 @@ wide t ns xs ys bs ks n x y b k =
       kept = omega (arith, h, k);
     }
 
--- the place, and what it is read as
-on_grid_passed : {q p : Site} → p ≡ q → SiteOnGrid q → SiteOnGrid p
-on_grid_passed e g = subst SiteOnGrid (sym e) g
-
 pub answer-reply-requires : goal.answer-reply-requires
-answer-reply-requires c =
-    let a = c.args in
-    let s : Slate = record { noted = rows c.numbers-ns.result c.measures-xs.result c.measures-ys.result c.measures-bars.result; kept = c.numbers-kept.result } in
-    subst (λ (q : Site). Askable a.table.now q s) (sym (site_passed a.x a.y c.ranges.x c.ranges.y))
-    (record {
-      table = c.requires.table;
-      x = c.requires.x;
-      y = c.requires.y;
-      room = wide c.requires.table _ _ _ _ _ (search rules) (search rules) (search rules) (search rules) (search rules);
-    })
+answer-reply-requires c = record {
+  table = c.requires.table;
+  x = c.requires.x;
+  y = c.requires.y;
+  room = wide c.requires.table _ _ _ _ _ (search rules) (search rules) (search rules) (search rules) (search rules);
+}
 
 pub hand_over-requires : goal.hand_over-requires
 hand_over-requires c =
     let a = c.args in
     let t = c.requires.table in
-    let e = site_passed a.x a.y c.ranges.x c.ranges.y in
-    let grid = on_grid_passed e (record { x = c.requires.x; y = c.requires.y }) in
-    let w = wide t c.numbers-ns.result c.measures-xs.result c.measures-ys.result c.measures-bars.result c.numbers-kept.result (search rules) (search rules) (search rules) (search rules) (search rules) in
-    (readable t _ grid a.k w c.answer-reply.ensures, omega (arith, listed_few t _ grid a.k w c.answer-reply.ensures, c.requires.room))
+    let grid : SiteOnGrid a.q = record { x = c.requires.x; y = c.requires.y } in
+    let w = wide t _ _ _ _ _ (search rules) (search rules) (search rules) (search rules) (search rules) in
+    let few = listed_few t _ grid a.k w c.answer-reply.ensures.replied in
+    (readable t _ grid a.k w c.answer-reply.ensures.replied, omega (arith, few, c.requires.room))
 
 pub returns : goal.returns
 returns c =
     let a = c.args in
     let t = c.requires.table in
-    let e = site_passed a.x a.y c.ranges.x c.ranges.y in
-    let grid = on_grid_passed e (record { x = c.requires.x; y = c.requires.y }) in
-    let w = wide t c.numbers-ns.result c.measures-xs.result c.measures-ys.result c.measures-bars.result c.numbers-kept.result (search rules) (search rules) (search rules) (search rules) (search rules) in
-    subst (λ (q : Site). Listed a.table.now q a.k a.list.now c.hand_over.new.list a.answers.now c.answer-reply.new.answers c.answer-reply.result) e
-    (lists t _ grid a.k w c.answer-reply.ensures a.list.now c.hand_over.new.list c.hand_over.ensures)
+    let grid : SiteOnGrid a.q = record { x = c.requires.x; y = c.requires.y } in
+    let w = wide t _ _ _ _ _ (search rules) (search rules) (search rules) (search rules) (search rules) in
+    lists t _ grid a.k w c.answer-reply.ensures.replied a.list.now c.hand_over.new.list c.hand_over.ensures

@@ -1,6 +1,5 @@
 -- The buffer has room for the line.
-use Rattle.std.proofs.Common.{arith, sym, subst}
-use Rattle.std.specs.Io.KnownBytes.{Appends}
+use Rattle.std.proofs.Common.{arith, sym}
 use Rattle.std.proofs.lemmas.List.{length-take-le}
 use Rattle.office.proofs.Started.{too_long_length}
 use Rattle.office.proofs.Whole.{taken}
@@ -14,4 +13,4 @@ slice_bounds-write_all-end g c =
     sym (length-take-le _ _ (omega (arith, c.put_too_long-filled.ensures.behind, too_long_length, c.put_too_long-filled.auto.out)))
 
 pub returns : goal.returns
-returns g c all = subst (Appends _ _) (taken c.put_too_long-filled.ensures) (c.write_all.ensures all)
+returns g c = rw (taken c.put_too_long-filled.ensures) at c.write_all.ensures

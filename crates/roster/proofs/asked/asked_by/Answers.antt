@@ -22,21 +22,21 @@ pub returns-in_default-number_in : goal.returns-in_default-number_in
 returns-in_default-number_in c =
     let four = asked_four c.args.item.now (sym c.field_count.ensures ∙ c.if-field_count-ne-FIELDS.false) (sym c.is_sound.ensures ∙ c.if-not-is_sound.false) in
     sym (four
-    ∙ heard _ _ _ _ c.number_in.ensures c.in-Number.is (search rules)
+    ∙ heard _ _ _ _ c.number_in.ensures c.in-Some.is (search rules)
     ∙ unheard _ _ _ c.number_in-2.ensures c.in_default-number_in.is)
 
 pub returns-in_default-number_in-2 : goal.returns-in_default-number_in-2
 returns-in_default-number_in-2 c =
     let four = asked_four c.args.item.now (sym c.field_count.ensures ∙ c.if-field_count-ne-FIELDS.false) (sym c.is_sound.ensures ∙ c.if-not-is_sound.false) in
     sym (four
-    ∙ heard _ _ _ _ c.number_in.ensures c.in-Number.is (search rules)
-    ∙ heard _ _ _ _ c.number_in-2.ensures c.in-Number-number_in.is (search rules)
+    ∙ heard _ _ _ _ c.number_in.ensures c.in-Some.is (search rules)
+    ∙ heard _ _ _ _ c.number_in-2.ensures c.in-Some-number_in.is (search rules)
     ∙ unheard _ _ _ c.number_in-3.ensures c.in_default-number_in-2.is)
 
 pub returns : goal.returns
 returns c =
     let four = asked_four c.args.item.now (sym c.field_count.ensures ∙ c.if-field_count-ne-FIELDS.false) (sym c.is_sound.ensures ∙ c.if-not-is_sound.false) in
     sym (four
-    ∙ heard _ _ _ _ c.number_in.ensures c.in-Number.is (search rules)
-    ∙ heard _ _ _ _ c.number_in-2.ensures c.in-Number-number_in.is (search rules)
-    ∙ heard _ _ _ _ c.number_in-3.ensures c.in-Number-number_in-2.is (search rules))
+    ∙ heard _ _ _ _ c.number_in.ensures c.in-Some.is (search rules)
+    ∙ heard _ _ _ _ c.number_in-2.ensures c.in-Some-number_in.is (search rules)
+    ∙ heard _ _ _ _ c.number_in-3.ensures c.in-Some-number_in-2.is (search rules))

@@ -1,12 +1,10 @@
--- `roster::lines::put_bytes` meets its contract. The loop's invariant: the bytes passed stand in the buffer. Assumes nothing.
-use Prim.Native.Nat.{◌-◌, ◌≤◌}
+-- `roster::lines::put_bytes` meets its contract. The loop's invariant: the bytes passed stand in the slip, whose buffer stays the same. Assumes nothing.
 use mathlib.Core.Path.{◌≡◌}
-use lib.ListN.{length, take}
-use Rattle.slip.specs.Output.{laid_at}
+use lib.ListN.{take}
+use Rattle.slip.specs.Output.{Laid}
 use Rattle.roster.proofs.lines.put_bytes.Given as goal
 
-abbrev pub invariant-loop-i : goal.invariant-loop-i
-invariant-loop-i l = (l.out ≡ laid_at l.initial.out l.at (take l.i l.bytes)) × ((length l.out ≡ length l.initial.out) × (l.i ≤ length l.bytes))
-
-abbrev pub decreases-loop-i : goal.decreases-loop-i
-decreases-loop-i l = length l.bytes - l.i
+abbrev pub invariant-loop-b : goal.invariant-loop-b
+invariant-loop-b l =
+    let before = l.fn.slip in
+    Laid before.out.now before.at (take l.b-index l.bytes) l.slip.out.now l.slip.at × (l.slip.out.ghost_name ≡ before.out.ghost_name)

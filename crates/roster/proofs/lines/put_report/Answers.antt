@@ -1,34 +1,31 @@
 -- `roster::lines::put_report` meets its contract: three runs, one behind the other. Assumes nothing.
-use Prim.Native.Nat.{ℕ}
-use mathlib.Core.Path.{◌≡◌}
+use mathlib.Core.Path.{◌∙◌}
 use mathlib.Core.List.{[], ◌∷◌, ◌++◌, append_assoc}
 use native.Mathlib.Omega.{arith}
 use Rattle.table.specs.Given.{number_given}
-use Rattle.sheet.specs.Bytes.{Bytes, FEED}
-use Rattle.slip.specs.Output.{decimal, tabbed, Laid}
-use Rattle.slip.proofs.Laid.{laid_within, laid_then}
+use Rattle.sheet.specs.Bytes.{FEED}
+use Rattle.slip.specs.Output.{decimal, tabbed}
+use Rattle.slip.proofs.Laid.{laid_room, laid_then}
 use Rattle.slip.proofs.Decimal.{decimal_most, number_room}
 use Rattle.roster.specs.Roster.{report_text}
 use Rattle.roster.proofs.lines.put_report.Goals as goal
 
-same_number : {out left : Bytes} {at next n m : ℕ} → n ≡ m → Laid out at (tabbed (decimal n ∷ [])) left next → Laid out at (tabbed (decimal m ∷ [])) left next
-same_number e l = rw e at l
+pub number-requires : goal.number-requires
+number-requires c = omega (arith, laid_room 20 c.decimal.ensures.laid (decimal_most c.args.number) (omega arith))
 
-pub put_number-told-requires : goal.put_number-told-requires
-put_number-told-requires c =
-    omega (arith, laid_within 20 c.put_decimal-numbered.ensures (decimal_most _))
+pub byte-requires : goal.byte-requires
+byte-requires c =
+    let numbered = laid_room 20 c.decimal.ensures.laid (decimal_most c.args.number) (omega arith) in
+    omega (arith, laid_room 21 c.number.ensures.laid (number_room _) (omega (arith, numbered)), numbered)
 
-pub put_byte-requires : goal.put_byte-requires
-put_byte-requires c =
-    omega (arith, laid_within 20 c.put_decimal-numbered.ensures (decimal_most _), laid_within 21 c.put_number-told.ensures (number_room _))
-
-pub returns : goal.returns
+pub returns-clause-laid : goal.returns-clause-laid
 unfolding report_text
-returns c =
+returns-clause-laid c =
     let a = c.args in
-    let d = c.put_decimal-numbered in
-    let p = c.put_number-told in
-    let g = tabbed (decimal (number_given a.given) ∷ []) in
-    let said = same_number c.number_given.ensures p.ensures in
-    let told = laid_then _ _ g _ _ (FEED ∷ []) _ _ (omega (arith, number_room (number_given a.given), decimal_most a.number, d.ensures.behind)) said c.put_byte.ensures in
-    rw append_assoc (laid_then a.out.now a.at (decimal a.number) _ _ (g ++ FEED ∷ []) _ _ (omega (arith, number_room (number_given a.given), decimal_most a.number)) d.ensures told)
+    let given = tabbed (decimal (number_given a.given) ∷ []) in
+    let numbered = laid_room 20 c.decimal.ensures.laid (decimal_most a.number) (omega arith) in
+    let room = number_room (number_given a.given) in
+    let said = rw (c.from.ensures ∙ c.number_given.ensures) at c.number.ensures.laid in
+    let told = laid_then _ _ given _ _ (FEED ∷ []) _ _ (omega (arith, room, numbered)) said c.byte.ensures.laid in
+    rw append_assoc
+    (laid_then _ _ (decimal a.number) _ _ (given ++ FEED ∷ []) _ _ (omega (arith, room, decimal_most a.number)) c.decimal.ensures.laid told)
