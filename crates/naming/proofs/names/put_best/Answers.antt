@@ -11,7 +11,7 @@ use Rattle.filter.proofs.Opening.{root_passable}
 use Rattle.vetting.specs.Test.{below}
 use Rattle.vetting.proofs.Below.{root_boxed}
 use Rattle.naming.specs.Holders.{marks_of}
-use Rattle.naming.proofs.CardNames.{blank_rises, not_empty, stands_grid, holders_few, holders_length, named_laid, named_left}
+use Rattle.naming.proofs.CardNames.{blank_rises, not_empty, holders_few, holders_length, named_laid, named_left}
 use Rattle.naming.proofs.names.put_best.Goals as goal
 use Rattle.naming.proofs.names.put_best.Goals.{After-offer_below}
 
@@ -42,7 +42,6 @@ offer_below-requires-clause-passable c =
     let ws = a.table.now in
     let t = c.requires.0.table in
     let some = not_empty ws t a.holder.number a.holder.place c.requires.0.station in (
-      stands_grid ws t a.holder.number a.holder.place c.requires.0.station,
       root_passable ws t.long t.words t.rules some _ _ c.root_of-root.ensures c.level_at-level.ensures,
       root_boxed ws t.long t.words t.rules some _ _ c.root_of-root.ensures c.level_at-level.ensures,
     )
