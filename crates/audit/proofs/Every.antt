@@ -1,5 +1,5 @@
 -- What is known of a test that is asked of one thing after the other: of the numbers below n, where the lowest that fails is looked for, and of the elements of a list, by std's `all`. Assumes nothing.
-use Prim.Native.Nat.{ℕ, suc, ◌+◌, ◌≤◌, ◌<◌}
+use Prim.Native.Nat.{ℕ, ◌<◌}
 use native.Mathlib.Omega.{arith}
 use mathlib.Core.Path.{◌≡◌, refl, ap, sym, ◌∙◌}
 use mathlib.Core.Bool.{Bool, true, false, ◌&&◌, false≢true}
@@ -7,7 +7,7 @@ use mathlib.Core.List.{List, [], ◌∷◌}
 use Rattle.std.specs.Prelude.{Option, None, Some, MatchOption, IfSome}
 use Rattle.std.specs.List.{list_all}
 use lib.ListN.{length, get_or}
-use Rattle.order.specs.Lists.{every, All}
+use Rattle.order.specs.Lists.{every}
 use Rattle.order.specs.Order.{up_from}
 use Rattle.audit.specs.Asked.{LowestAt, LowestNo, Lowest}
 use Rattle.order.proofs.Lists.{all_at}

@@ -12,10 +12,7 @@ pub fn is_above(table: &Words, slot: usize) -> bool
     requires { slot < SLOTS }
     ensures { result ≡ is_above table.now slot }
 {
-    if slot::is_free(table, slot) {
-        return false;
-    }
-    slot::level_at(table, slot) != 0
+    !slot::is_free(table, slot) && slot::level_at(table, slot) != 0
 }
 
 // A child slot is 0 to 255, used, with level exactly one less.

@@ -33,9 +33,5 @@ pub fn rule2_holds(table: &Words) -> bool
     if slot::is_free(table, root) {
         return false;
     }
-    let points = slot::points_of(table);
-    if points < 1 {
-        return false;
-    }
-    points <= Table::MOST
+    (1..=Table::MOST).contains(&slot::points_of(table))
 }

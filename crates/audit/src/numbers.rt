@@ -22,26 +22,14 @@ const NUMBERS: usize = Table::HIGHEST + 1;
 fn span_is_spot(s: Span) -> bool
     ensures { result ≡ span_is_spot s }
 {
-    if s.low != s.high {
-        return false;
-    }
-    border::step_on_grid(s.low)
+    s.low == s.high && border::step_on_grid(s.low)
 }
 
 // An entry that a leaf may hold.
 pub fn is_point(e: Entry) -> bool
     ensures { result ≡ is_point e }
 {
-    if e.reference < 1 {
-        return false;
-    }
-    if Table::HIGHEST < e.reference {
-        return false;
-    }
-    if !span_is_spot(e.rect.x) {
-        return false;
-    }
-    span_is_spot(e.rect.y)
+    (1..=Table::HIGHEST).contains(&e.reference) && span_is_spot(e.rect.x) && span_is_spot(e.rect.y)
 }
 
 pub fn all_points(n: Node) -> bool

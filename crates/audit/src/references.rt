@@ -46,8 +46,7 @@ fn points_at(table: &Words, slot: usize) -> usize
     if slot::level_at(table, slot) != 0 {
         return 0;
     }
-    let n = slot::node_at(table, slot);
-    n.count
+    slot::count_at(table, slot)
 }
 
 // How many points the leaves hold.

@@ -59,9 +59,5 @@ pub fn rule3_at(table: &Words, slot: usize) -> bool
     if border::steps_at(words, 0) < ZERO {
         return false;
     }
-    let said = border::natural_at(words, 1);
-    if said < least_fill(table, slot) {
-        return false;
-    }
-    said <= Table::FAN
+    (least_fill(table, slot)..=Table::FAN).contains(&border::natural_at(words, 1))
 }

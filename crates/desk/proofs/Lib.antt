@@ -9,5 +9,6 @@ pub mod CallQuery
 pub mod CallList
 pub mod CallAlone
 pub mod CallCard
+pub mod Exits
 pub mod Once
 pub mod PassedOn

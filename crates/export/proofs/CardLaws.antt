@@ -11,8 +11,7 @@ use lib.Seq.{drop-cons, drop-drop, take_at, drop_at, length-take-le}
 use borrow.Author.Tests.{lt-ltb, le-ltb}
 use borrow.Rule.Slice.PartMut.{mid_of, post_of, put_mid}
 use Rattle.order.proofs.Lists.{drop_all}
-use Rattle.table.specs.declared.given.Given.{Given}
-use Rattle.table.specs.declared.given.Given.TheVariants.{Done}
+use Rattle.table.specs.Given.{Given, Done}
 use Rattle.table.specs.Words.{Words}
 use Rattle.audit.specs.Check.{check_gives}
 use Rattle.desk.specs.Calls.{after_card}

@@ -11,15 +11,14 @@ use Rattle.limits.proofs.Refused.{if_refused}
 use Rattle.words.specs.Word.{nat_of}
 use Rattle.grid.specs.declared.site.Site.{Site}
 use Rattle.grid.specs.Site.{site}
-use Rattle.table.specs.declared.given.Given.{Given}
-use Rattle.table.specs.declared.given.Given.TheVariants.{Done}
+use Rattle.table.specs.Given.{Given, Done}
 use Rattle.figures.specs.Figures.{MOST}
 use Rattle.table.specs.Words.{Words}
 use Rattle.audit.specs.Check.{check_gives}
 use Rattle.filter.specs.Query.{answers_found, laid_over}
 use Rattle.filter.proofs.RowLaws.{laid_set}
 use Rattle.asking.specs.Slate.{Slate}
-use Rattle.refusals.specs.declared.answered.Answered.{Answered}
+use Rattle.refusals.specs.Told.{Answered}
 use Rattle.refusals.specs.Refusals.{query_gives}
 use Rattle.desk.specs.Calls.{after_query}
 use Rattle.desk.specs.Alone.{AnswersAlone}

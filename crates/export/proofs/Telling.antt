@@ -3,8 +3,7 @@ use mathlib.Core.Path.{◌≡◌, sym, ap, ◌∙◌}
 use mathlib.Core.List.{List}
 use lib.IntN.{ℤ}
 use Rattle.limits.proofs.Refused.{if_refused}
-use Rattle.table.specs.declared.given.Given.{Given}
-use Rattle.table.specs.declared.given.Given.TheVariants.{Done}
+use Rattle.table.specs.Given.{Given, Done}
 use Rattle.table.specs.Words.{Words}
 use Rattle.table.specs.Given.{if_done}
 use Rattle.audit.specs.Check.{check_gives}

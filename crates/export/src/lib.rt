@@ -6,6 +6,7 @@ ghost use Rattle.std.specs.Prelude.{◌≡◌};
 ghost use Rattle.grid.specs.Site.{site};
 ghost use Rattle.table.specs.Given.{number_given};
 ghost use Rattle.audit.specs.Check.{check_gives};
+ghost use Rattle.refusals.specs.Told.{answered, carded};
 ghost use Rattle.refusals.specs.Refusals.{enrol_gives, withdraw_gives};
 ghost use Rattle.desk.specs.Calls.{after_enrol, after_withdraw};
 ghost use Rattle.export.specs.Front.{front_laid};
@@ -17,9 +18,10 @@ ghost use Rattle.export.specs.Sites.{sites_after};
 mod cards;
 mod sites;
 
+use asking::answer::Reply;
+use grid::site::Site;
 use record::Candidate;
-use refusals::answered::Answered;
-use refusals::carding::Carded;
+use refusals::answered::Refused;
 use table::given::{Given, number_given, rule_given, slot_given};
 
 // The values go to the front of the lent row; a row of fewer places stays as it was.
@@ -31,11 +33,13 @@ fn lay<T: Copy, const N: usize>(values: [T; N], row: &mut [T])
     }
 }
 
-// Where a table is bad, by the rule and the slot of an answer: 0 and 0 with any answer but 2.
-fn told_where(given: Given, fault: &mut [i32])
-    ensures { fault.new ≡ fault_laid given fault.old }
+// The number of an answer. Where the table is bad goes to the lent row, as the rule and the slot: 0 and 0 with any answer but 2.
+fn told(given: Given, fault: &mut [i32]) -> u8
+    ensures given { result ≡ number_given given }
+    ensures fault { fault.new ≡ fault_laid given fault.old }
 {
     lay([i32::from(rule_given(given)), slot_given(given)], fault);
+    number_given(given)
 }
 
 // The table check.
@@ -44,9 +48,7 @@ pub extern "C" fn ullagreth_check(table: &[i32], fault: &mut [i32]) -> u8
     ensures given { result ≡ number_given (check_gives table.now) }
     ensures fault { fault.new ≡ fault_laid (check_gives table.now) fault.old }
 {
-    let given = desk::check::check(table);
-    told_where(given, fault);
-    number_given(given)
+    told(desk::check::check(table), fault)
 }
 
 // Enrols a point at a place.
@@ -62,9 +64,7 @@ pub extern "C" fn ullagreth_enrol(
     ensures words { table.new ≡ after_enrol table.old number (site x y) }
     ensures fault { fault.new ≡ fault_laid (enrol_gives table.old number (site x y)) fault.old }
 {
-    let given = desk::enrol::enrol(table, number, x, y);
-    told_where(given, fault);
-    number_given(given)
+    told(desk::enrol::enrol(table, number, Site { x, y }), fault)
 }
 
 // Withdraws the point with a number.
@@ -74,20 +74,25 @@ pub extern "C" fn ullagreth_withdraw(table: &mut [i32], number: i32, fault: &mut
     ensures words { table.new ≡ after_withdraw table.old number }
     ensures fault { fault.new ≡ fault_laid (withdraw_gives table.old number) fault.old }
 {
-    let given = desk::withdraw::withdraw(table, number);
-    told_where(given, fault);
-    number_given(given)
+    told(desk::withdraw::withdraw(table, number), fault)
 }
 
-// The number of what a query hands back, where the table is bad, and the counts n, m and o.
-fn told(a: Answered, counts: &mut [u64], fault: &mut [i32]) -> u8
-    ensures given { result ≡ number_given a.given }
-    ensures counts { counts.new ≡ counts_laid (record { n = a.n; m = a.m; o = a.o }) counts.old }
-    ensures fault { fault.new ≡ fault_laid a.given fault.old }
+// What a query hands back: its counts n, m and o go to the lent row.
+fn told_query(reply: Result<Reply, Refused>, counts: &mut [u64], fault: &mut [i32]) -> u8
+    ensures given { result ≡ number_given (answered reply).given }
+    ensures counts { counts.new ≡ counts_laid (record { n = (answered reply).n; m = (answered reply).m; o = (answered reply).o }) counts.old }
+    ensures fault { fault.new ≡ fault_laid (answered reply).given fault.old }
 {
-    told_where(a.given, fault);
-    lay([a.n as u64, a.m as u64, a.o as u64], counts);
-    number_given(a.given)
+    match reply {
+        Ok(r) => {
+            lay([r.n as u64, r.m as u64, r.o as u64], counts);
+            told(Ok(()), fault)
+        }
+        Err(refused) => {
+            lay([refused.length as u64, 0, 0], counts);
+            told(Err(refused.why), fault)
+        }
+    }
 }
 
 // Answers a query: candidates to the candidate list, answers to the answer list, n, m and o to the counts.
@@ -105,8 +110,8 @@ pub extern "C" fn ullagreth_query(
     ensures { Told table.now (site x y) k list.old list.new answers.old answers.new
         counts.old counts.new fault.old fault.new result }
 {
-    let a = desk::query::query(table, x, y, k, list, answers);
-    told(a, counts, fault)
+    let reply = desk::query::query(table, Site { x, y }, k, list, answers);
+    told_query(reply, counts, fault)
 }
 
 // The numbers of answers of many places, for one check of the table: a place whose query is refused gets 0.
@@ -123,24 +128,25 @@ pub extern "C" fn ullagreth_sites(
     ensures counts { counts.new ≡ sites_after table.now k xs.now ys.now counts.old }
     ensures fault { fault.new ≡ fault_laid (check_gives table.now) fault.old }
 {
-    let given = desk::check::check(table);
-    told_where(given, fault);
-    let Given::Done = given else {
-        return number_given(given);
-    };
-    sites::count_all(table, xs, ys, k, counts);
-    number_given(given)
+    told(sites::count_checked(table, xs, ys, k, counts), fault)
 }
 
-// The number of what a card hands back, where the table is bad, and how many names it has.
-fn told_card(c: Carded, names: &mut [u64], fault: &mut [i32]) -> u8
-    ensures given { result ≡ number_given c.given }
-    ensures names { names.new ≡ names_laid c.names names.old }
-    ensures fault { fault.new ≡ fault_laid c.given fault.old }
+// What a card hands back: how many names it has goes to the lent row.
+fn told_card(names: Result<usize, Refused>, row: &mut [u64], fault: &mut [i32]) -> u8
+    ensures given { result ≡ number_given (carded names).given }
+    ensures names { row.new ≡ names_laid (carded names).names row.old }
+    ensures fault { fault.new ≡ fault_laid (carded names).given fault.old }
 {
-    told_where(c.given, fault);
-    lay([c.names as u64], names);
-    number_given(c.given)
+    match names {
+        Ok(n) => {
+            lay([n as u64], row);
+            told(Ok(()), fault)
+        }
+        Err(refused) => {
+            lay([refused.length as u64], row);
+            told(Err(refused.why), fault)
+        }
+    }
 }
 
 // The card of the station with a number: its names to the list, in card order, and how many they are to the row.
@@ -156,8 +162,7 @@ pub extern "C" fn ullagreth_card(
     ensures { ToldCard table.now number k list.old list.new names.old names.new
         fault.old fault.new result }
 {
-    let c = desk::cards::card(table, number, k, list);
-    told_card(c, names, fault)
+    told_card(desk::cards::card(table, number, k, list), names, fault)
 }
 
 // The cards of many stations, for one check of the table: number i has the i-th stretch of sixteen places.
@@ -173,11 +178,5 @@ pub extern "C" fn ullagreth_cards(
     ensures cards { cards.new ≡ cards_after table.now k numbers.now cards.old }
     ensures fault { fault.new ≡ fault_laid (check_gives table.now) fault.old }
 {
-    let given = desk::check::check(table);
-    told_where(given, fault);
-    let Given::Done = given else {
-        return number_given(given);
-    };
-    cards::put_cards(table, numbers, k, cards);
-    number_given(given)
+    told(cards::put_checked(table, numbers, k, cards), fault)
 }

@@ -6,9 +6,10 @@ use mathlib.Core.Bool.{Bool, true, false, cond, ◌||◌}
 use mathlib.Core.List.{List, [], ◌∷◌, map}
 use lib.Dec.{eqb}
 use borrow.Author.Tests.{eqb-true, eqb-false, eq-eqb, ne_eqb}
-use Rattle.std.specs.Prelude.{Some, None}
+use Rattle.std.specs.Prelude.{ℤ, Option, Some, None}
 use Rattle.std.specs.Option.{is_some}
 use Rattle.words.specs.Word.{nat_of}
+use Rattle.grid.specs.declared.place.Place.{Place}
 use Rattle.order.specs.Lists.{has, join}
 use Rattle.order.specs.Order.{up_from}
 use Rattle.order.proofs.Lists.{by_bool}
@@ -22,7 +23,7 @@ use Rattle.rules.specs.Rules.{leaf_entries, numbers_at}
 use Rattle.rules.proofs.Joined.{map_join}
 use Rattle.filter.specs.Walk.{spot_in}
 use Rattle.naming.specs.Named.{where_in, where_of}
-use Rattle.refusals.specs.Refusals.{numbers_of}
+use Rattle.refusals.specs.Refusals.{numbers_of, is_enrolled}
 
 map_cond : {A B C : Type 0} (f : A → C) (g : B → C) (b : Bool) (xs : List A) (ys : List B) → map f xs ≡ map g ys
     → map f (cond b xs []) ≡ map g (cond b ys [])
@@ -63,6 +64,9 @@ module _ (n : ℕ) where
     by_leaves : numbers_of ws ≡ map (λ e. e.reference) (join (leaf_entries ws) slots)
     by_leaves = numbers_of_lem ws ∙ sym (map_join (λ e. e.reference) (leaf_entries ws) slots)
 
-    pub enrolled_told : is_some (where_of ws n) ≡ has n (numbers_of ws)
+    stands_told : is_some (where_of ws n) ≡ has n (numbers_of ws)
     unfolding where_of
-    enrolled_told = where_is (join (leaf_entries ws) slots) ∙ ap (has n) (sym by_leaves)
+    stands_told = where_is (join (leaf_entries ws) slots) ∙ ap (has n) (sym by_leaves)
+
+pub enrolled_told : (ws : Words) (n : ℤ) {m : ℕ} {r : Option Place} → m ≡ nat_of n → r ≡ where_of ws m → is_some r ≡ is_enrolled ws n
+enrolled_told ws n {m} i e = ap is_some e ∙ stands_told m ws ∙ ap (λ k. has k (numbers_of ws)) i

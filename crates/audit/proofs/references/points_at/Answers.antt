@@ -10,4 +10,4 @@ returns c =
     let a = c.args in
     let ws = a.table.now in
     let e = eq-eqb (level_at ws a.slot) 0 (sym c.level_at.ensures ∙ c.if-level_at-ne0.false) in
-    c.node_at-n.ensures.count ∙ sym (points_length ws a.slot e)
+    c.count_at.ensures ∙ sym (points_length ws a.slot e)

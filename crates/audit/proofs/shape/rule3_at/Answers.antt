@@ -1,8 +1,8 @@
 -- `shape::rule3_at` meets its contract: the tests in their order, of the first two words of the slot. Assumes nothing.
+use Rattle.std.proofs.Common.{rules}
 use mathlib.Core.Path.{◌≡◌, ap, sym, ◌∙◌}
 use mathlib.Core.Bool.{true, false}
 use native.Mathlib.Omega.{arith}
-use borrow.Author.Tests.{le-leb, lt-leb}
 use Rattle.words.specs.Word.{nat_of}
 use Rattle.figures.specs.Figures.{FAN}
 use Rattle.table.specs.Words.{word, part_at, between}
@@ -27,28 +27,16 @@ returns-then-steps_at-lt-ZERO c =
     let p = c.part_of-words.ensures in
     rw (f, left_negative (word (part_at ws a.slot) 0) (omega (arith, rw p at c.steps_at.ensures)))
 
-pub returns-then-said-least_fill : goal.returns-then-said-least_fill
-unfolding rule3
-returns-then-said-least_fill c =
-    let past_level : rule3 c.args.table.now c.args.slot ≡ between c.least_fill.result FAN c.natural_at-said.result =
-    let a = c.args in
-    let ws = a.table.now in
-    let f : is_free ws a.slot ≡ false = sym c.is_free.ensures ∙ c.if-is_free.false in
-    let p = c.part_of-words.ensures in
-    let r = right_natural (word (part_at ws a.slot) 0) (omega (arith, rw p at c.steps_at.ensures)) in
-    let n : nat_of (word (part_at ws a.slot) 1) ≡ c.natural_at-said.result = sym (rw p at c.natural_at-said.ensures) in
-    rw (f, r, n) (ap (λ k. between k FAN c.natural_at-said.result) (sym c.least_fill.ensures)) in
-    sym (past_level ∙ rw (lt-leb c.least_fill.result c.natural_at-said.result c.if-said-least_fill.true))
-
 pub returns : goal.returns
 unfolding rule3
 returns c =
-    let past_level : rule3 c.args.table.now c.args.slot ≡ between c.least_fill.result FAN c.natural_at-said.result =
+    let past_level : rule3 c.args.table.now c.args.slot ≡ between c.least_fill.result FAN c.natural_at.result =
     let a = c.args in
     let ws = a.table.now in
     let f : is_free ws a.slot ≡ false = sym c.is_free.ensures ∙ c.if-is_free.false in
     let p = c.part_of-words.ensures in
     let r = right_natural (word (part_at ws a.slot) 0) (omega (arith, rw p at c.steps_at.ensures)) in
-    let n : nat_of (word (part_at ws a.slot) 1) ≡ c.natural_at-said.result = sym (rw p at c.natural_at-said.ensures) in
-    rw (f, r, n) (ap (λ k. between k FAN c.natural_at-said.result) (sym c.least_fill.ensures)) in
-    sym (past_level ∙ rw (le-leb c.least_fill.result c.natural_at-said.result c.if-said-least_fill.false))
+    let n : nat_of (word (part_at ws a.slot) 1) ≡ c.natural_at.result = sym (rw p at c.natural_at.ensures) in
+    rw (f, r, n) (ap (λ k. between k FAN c.natural_at.result) (sym c.least_fill.ensures)) in
+    let within : c.contains.result ≡ between c.least_fill.result FAN c.natural_at.result = search rules in
+    within ∙ sym past_level

@@ -1,23 +1,25 @@
 -- `cards::card` meets its contract: what the check refuses is refused, and a table that passes is one for `card_passing`. Assumes nothing.
-use mathlib.Core.Path.{sym, subst}
+use mathlib.Core.Path.{refl}
 use lib.ListN.{length}
-use Rattle.refusals.specs.Told.{Carded}
+use Rattle.limits.proofs.Refused.{not_done}
 use Rattle.refusals.proofs.CallOrder.{passes}
 use Rattle.refusals.proofs.CardOrder.{check_not_short, card_first}
-use Rattle.desk.specs.Carding.{Cards}
+use Rattle.desk.proofs.Exits.{refused_is}
 use Rattle.desk.proofs.CallCard.{card_refused_is}
 use Rattle.desk.proofs.cards.card.Goals as goal
 
-pub returns-in_default : goal.returns-in_default
-returns-in_default c =
+pub returns-in_err-check : goal.returns-in_err-check
+returns-in_err-check c =
     let a = c.args in
     let ws = a.table.now in
     let old = a.list.now in
-    let e = c.check-checked.ensures in
-    let d = c.in_default.not-Done in
-    subst (λ (r : Carded). Cards ws a.number a.k old old r) (sym c.card_refused.ensures)
-    (card_refused_is ws a.number a.k old (card_first ws a.number a.k (length old) e d) d (check_not_short ws e))
+    let e = c.in_err-check.ensures in
+    rw (refused_is _ c.from_residual.result c.from_residual.ensures.1)
+    (card_refused_is ws a.number a.k old (card_first ws a.number a.k (length old) e (not_done _)) (not_done _) (check_not_short ws e))
+
+-- a table that passes is as long as a table is
+pub returns-in_default : goal.returns-in_default
+returns-in_default c = absurd (c.in_default.ensures.cases (passes c.args.table.now c.in_ok-check.ensures refl).0)
 
 pub card_passing-requires : goal.card_passing-requires
-card_passing-requires c =
-    passes c.args.table.now c.check-checked.ensures c.in-Done.is
+card_passing-requires c = rw c.in-Some.ensures.cases.same (passes c.args.table.now c.in_ok-check.ensures refl)

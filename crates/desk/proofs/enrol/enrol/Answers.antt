@@ -1,18 +1,28 @@
 -- `enrol::enrol` meets its contract: what the check refuses is refused, and a table that passes is one for `enrol_passing`. Assumes nothing.
-use Rattle.grid.specs.Site.{site}
-use Rattle.desk.proofs.CallAfter.{enrol_refused_lem}
+use mathlib.Core.Path.{refl, ◌∙◌}
+use Rattle.limits.proofs.Refused.{not_done}
 use Rattle.refusals.proofs.CallOrder.{passes, enrol_first}
+use Rattle.desk.proofs.Exits.{given_is}
+use Rattle.desk.proofs.CallAfter.{enrol_refused_lem}
 use Rattle.desk.proofs.enrol.enrol.Goals as goal
 
-pub returns-in_default : goal.returns-in_default
-returns-in_default c =
+pub returns-in_err-check-clause-given : goal.returns-in_err-check-clause-given
+returns-in_err-check-clause-given c =
+    let a = c.args in
+    given_is _ c.from_residual.result c.from_residual.ensures.1 ∙ enrol_first a.table.now c.in_err-check.ensures a.number a.site (not_done _)
+
+pub returns-in_err-check-clause-words : goal.returns-in_err-check-clause-words
+returns-in_err-check-clause-words c =
     let a = c.args in
     let ws = a.table.now in
-    let p = site a.x a.y in
-    let d = c.in_default.not-Done in
-    let e = enrol_first ws c.check-checked.ensures a.number p d in
-    record { given = e; words = enrol_refused_lem ws a.number p e d }
+    enrol_refused_lem ws a.number a.site (enrol_first ws c.in_err-check.ensures a.number a.site (not_done _)) (not_done _)
+
+-- a table that passes is as long as a table is
+pub returns-in_default-clause-given : goal.returns-in_default-clause-given
+returns-in_default-clause-given c = absurd (c.in_default.ensures.cases (passes c.args.table.now c.in_ok-check.ensures refl).0)
+
+pub returns-in_default-clause-words : goal.returns-in_default-clause-words
+returns-in_default-clause-words c = absurd (c.in_default.ensures.cases (passes c.args.table.now c.in_ok-check.ensures refl).0)
 
 pub enrol_passing-requires : goal.enrol_passing-requires
-enrol_passing-requires c =
-    passes c.args.table.now c.check-checked.ensures c.in-Done.is
+enrol_passing-requires c = rw c.in-Some.ensures.cases.same (passes c.args.table.now c.in_ok-check.ensures refl)

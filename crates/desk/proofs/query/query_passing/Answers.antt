@@ -1,43 +1,41 @@
 -- `query::query_passing` meets its contract: what is refused is refused, and a granted query hands both lists on. Assumes nothing.
 use Prim.Native.Nat.{ℕ}
-use mathlib.Core.Path.{sym, ap, subst, ◌∙◌}
+use mathlib.Core.Path.{refl, sym, ap, subst, ◌∙◌}
 use lib.ListN.{length}
+use Rattle.std.specs.Prelude.{Result}
 use Rattle.words.proofs.Machine.{natural_passed}
-use Rattle.grid.specs.declared.site.Site.{Site}
-use Rattle.grid.specs.Site.{site}
-use Rattle.grid.proofs.Sites.{site_passed}
 use Rattle.rules.specs.Rules.{Passing}
-use Rattle.listing.specs.Listed.{Listable, Listed}
+use Rattle.asking.specs.declared.answer.Reply.{Reply}
+use Rattle.listing.specs.Listed.{Listed}
+use Rattle.limits.proofs.CallTests.{one_passed}
+use Rattle.limits.proofs.Refused.{not_done}
+use Rattle.refusals.specs.declared.answered.Refused.{Refused}
 use Rattle.refusals.specs.Refusals.{query_gives}
-use Rattle.refusals.specs.Told.{Answered, told}
+use Rattle.refusals.specs.Told.{answered, told}
 use Rattle.refusals.proofs.QueryOrder.{answers_told}
-use Rattle.limits.proofs.CallTests.{three_passed, two_back}
 use Rattle.desk.specs.Lent.{Answers}
+use Rattle.desk.proofs.Exits.{refused_is}
 use Rattle.desk.proofs.Granted.{query_granted}
-use Rattle.desk.proofs.CallList.{refused_not_done, not_refused_done, list_refused, list_told}
+use Rattle.desk.proofs.CallList.{list_refused, list_told}
 use Rattle.desk.proofs.query.query_passing.Goals as goal
 
-pub returns-then-is_refused : goal.returns-then-is_refused
-returns-then-is_refused c =
+pub returns-in_err-query_given : goal.returns-in_err-query_given
+returns-in_err-query_given c =
     let a = c.args in
     let ws = a.table.now in
     let ys = a.candidates.now in
-    let old = a.answers.now in
-    let asked = three_passed (λ x y k. query_gives ws (site x y) k (length ys) (answers_told ws (site x y) k)) a.x a.y a.k c.ranges.x c.ranges.y c.ranges.k c.query_given-given.ensures in
-    subst (λ (r : Answered). Answers ws (site a.x a.y) a.k ys ys old old r) (sym c.refused.ensures)
-    (list_refused ws (site a.x a.y) a.k ys old asked (refused_not_done _ (sym c.is_refused.ensures ∙ c.if-is_refused.true)))
+    let asked = one_passed (λ k. query_gives ws a.q k (length ys) (answers_told ws a.q k)) a.k c.ranges.k c.in_err-query_given.ensures in
+    rw (refused_is _ c.from_residual.result c.from_residual.ensures.1) (list_refused ws a.q a.k ys a.answers.now asked (not_done _))
 
 pub answer_listed-reply-requires : goal.answer_listed-reply-requires
 answer_listed-reply-requires c =
     let a = c.args in
     let ws = a.table.now in
     let ys = a.candidates.now in
-    let asked = three_passed (λ x y k. query_gives ws (site x y) k (length ys) (answers_told ws (site x y) k)) a.x a.y a.k c.ranges.x c.ranges.y c.ranges.k c.query_given-given.ensures in
-    let done = not_refused_done _ (sym c.is_refused.ensures ∙ c.if-is_refused.false) in
-    let y = (query_granted ws (site a.x a.y) a.k (length ys) (answers_told ws (site a.x a.y) a.k) (sym asked ∙ done)).0 in
+    let asked = one_passed (λ k. query_gives ws a.q k (length ys) (answers_told ws a.q k)) a.k c.ranges.k c.in_ok-query_given.ensures in
+    let y = (query_granted ws a.q a.k (length ys) (answers_told ws a.q a.k) (sym asked)).0 in
     let table : Passing ws = record { long = c.requires.0; words = c.are_words.ensures; rules = c.requires.1 } in
-    subst (λ (q : Site). Listable ws q (length ys)) (sym (site_passed a.x a.y c.ranges.x c.ranges.y))
-    (record { table = table; x = y.grid.x; y = y.grid.y; room = y.candidates })
+    record { table = table; x = y.grid.x; y = y.grid.y; room = y.candidates }
 
 pub returns : goal.returns
 returns c =
@@ -46,11 +44,8 @@ returns c =
     let ys = a.candidates.now in
     let old = a.answers.now in
     let w = c.answer_listed-reply in
-    let asked = three_passed (λ x y k. query_gives ws (site x y) k (length ys) (answers_told ws (site x y) k)) a.x a.y a.k c.ranges.x c.ranges.y c.ranges.k c.query_given-given.ensures in
-    let done = not_refused_done _ (sym c.is_refused.ensures ∙ c.if-is_refused.false) in
-    let n = natural_passed a.k c.ranges.k c.natural.ensures in
-    let listed = two_back (λ x y. Listed ws (site x y) c.natural.result ys w.new.list old w.new.answers w.result) a.x a.y c.ranges.x c.ranges.y w.ensures in
-    let r = subst (λ (k : ℕ). Listed ws (site a.x a.y) k ys w.new.list old w.new.answers w.result) n listed in
-    subst (λ (t : Answered). Answers ws (site a.x a.y) a.k ys w.new.list old w.new.answers t)
-    (sym (c.handed_back.ensures ∙ ap (told w.result) w.auto.answers))
-    (list_told ws (site a.x a.y) a.k ys w.new.list old w.new.answers w.result r asked done)
+    let asked = one_passed (λ k. query_gives ws a.q k (length ys) (answers_told ws a.q k)) a.k c.ranges.k c.in_ok-query_given.ensures in
+    let r = subst (λ (k : ℕ). Listed ws a.q k ys w.new.list old w.new.answers w.result) (natural_passed a.k c.ranges.k c.natural.ensures) w.ensures in
+    subst (λ (t : Result Reply Refused). Answers ws a.q a.k ys w.new.list old w.new.answers (answered t))
+    (sym (c.told.ensures ∙ ap (told w.result w.result.n) w.auto.answers))
+    (list_told ws a.q a.k ys w.new.list old w.new.answers w.result r asked refl)
