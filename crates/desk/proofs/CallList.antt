@@ -3,16 +3,15 @@ use Prim.Native.Nat.{ℕ, ◌≤◌, ◌<◌}
 use native.Mathlib.Omega.{arith}
 use native.Mathlib.Decide.{dec_lt}
 use mathlib.Core.Path.{◌≡◌, refl, sym, ap, ◌∙◌}
-use mathlib.Core.Bool.{Bool, true, false, not, cond}
+use mathlib.Core.Bool.{cond}
 use mathlib.Core.List.{List}
-use lib.Dec.{T, ltb}
+use lib.Dec.{ltb}
 use lib.IntN.{ℤ}
 use lib.ListN.{length}
 use borrow.Author.Tests.{lt-ltb, le-ltb, le-leb, lt-leb}
 use Rattle.std.specs.Prelude.{Ok, Err}
 use Rattle.words.specs.Word.{nat_of}
 use Rattle.grid.specs.declared.site.Site.{Site}
-use Rattle.order.specs.Lists.{one}
 use Rattle.order.proofs.Lists.{by_leb}
 use Rattle.table.specs.declared.given.Refusal.TheVariants.{ShortList}
 use Rattle.table.specs.Given.{Given, Done}
@@ -26,7 +25,6 @@ use Rattle.refusals.specs.Refusals.{query_gives}
 use Rattle.desk.specs.Calls.{after_query}
 use Rattle.refusals.specs.Told.{answered, told}
 use Rattle.desk.specs.Lent.{Answers}
-use Rattle.refusals.proofs.Given.{by_given}
 use Rattle.refusals.proofs.QueryOrder.{answers_told, query_early, not_few, query_late}
 use Rattle.desk.proofs.CallQuery.{after_refused, queried_ext, counts_ext}
 

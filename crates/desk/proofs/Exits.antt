@@ -6,6 +6,9 @@ use Rattle.std.proofs.lemmas.Result.{err_from_is_err_and}
 use Rattle.table.specs.declared.given.Refusal.{Refusal}
 use Rattle.refusals.specs.declared.answered.Refused.{Refused}
 
+pub refusal_is : {T : Type 0} {w v : Refusal} → ◌≡◌ {A = Result T Refusal} (Err w) (Err v) → w ≡ v
+refusal_is e = cc
+
 module _ {T : Type 0} (w : Refusal) where
   -- the refusal itself
   pub given_is : (r : Result T Refusal) → IsErrAnd r (λ e. e ≡ w) → r ≡ Err w

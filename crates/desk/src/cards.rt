@@ -22,9 +22,10 @@ pub fn card_passing(table: &Words, number: i32, k: i32, list: &mut [u32]) -> Res
     are_words(table);
     card_asked(number, k)?;
     // One search tells both whether the station is enrolled and where it stands.
-    let number = natural(number);
-    let place = find(table, number).ok_or(Refusal::NotEnrolled)?;
-    let names = put_card(table, Holder { number, place }, natural(k), list);
+    let n = natural(number);
+    let place = find(table, n).ok_or(Refusal::NotEnrolled)?;
+    let holder = Holder { number: n, place };
+    let names = put_card(table, holder, natural(k), list);
     told(names, names, list.len())
 }
 

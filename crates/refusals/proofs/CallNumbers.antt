@@ -1,12 +1,11 @@
 -- Whether a number is enrolled: the points of a slot have the numbers of its leaf entries, and the search for a number goes through those. Assumes nothing.
 use Prim.Native.Nat.{ℕ, ◌+◌, ◌*◌}
-use native.Mathlib.Omega.{arith}
 use mathlib.Core.Path.{◌≡◌, refl, sym, ap, ◌∙◌}
 use mathlib.Core.Bool.{Bool, true, false, cond, ◌||◌}
 use mathlib.Core.List.{List, [], ◌∷◌, map}
 use lib.Dec.{eqb}
 use borrow.Author.Tests.{eqb-true, eqb-false, eq-eqb, ne_eqb}
-use Rattle.std.specs.Prelude.{ℤ, Option, Some, None}
+use Rattle.std.specs.Prelude.{ℤ, Option, Some}
 use Rattle.std.specs.Option.{is_some}
 use Rattle.words.specs.Word.{nat_of}
 use Rattle.grid.specs.declared.place.Place.{Place}

@@ -16,11 +16,11 @@ use Rattle.naming.specs.Named.{Named}
 use Rattle.refusals.specs.declared.answered.Refused.{Refused}
 use Rattle.refusals.specs.Refusals.{is_enrolled}
 use Rattle.refusals.specs.Carding.{card_asked}
-use Rattle.refusals.specs.Told.{carded, told}
+use Rattle.refusals.specs.Told.{carded}
 use Rattle.refusals.proofs.CallNumbers.{enrolled_told}
 use Rattle.refusals.proofs.CardOrder.{asked_not_short, card_early, card_8, card_last}
 use Rattle.desk.specs.Carding.{Cards}
-use Rattle.desk.proofs.Exits.{refused_is}
+use Rattle.desk.proofs.Exits.{refusal_is, refused_is}
 use Rattle.desk.proofs.CallCard.{card_refused_is, card_told_is}
 use Rattle.desk.proofs.cards.card_passing.Goals as goal
 
@@ -40,13 +40,13 @@ returns-in_err-place c =
     let ws = a.table.now in
     let old = a.list.now in
     let asked = two_passed card_asked a.number a.k c.ranges.number c.ranges.k c.in_ok-card_asked.ensures in
-    let there = enrolled_told ws a.number (natural_passed a.number c.ranges.number c.natural-number.ensures) c.find.ensures in
+    let there = enrolled_told ws a.number (natural_passed a.number c.ranges.number c.natural-n.ensures) c.find.ensures in
     let new : is_enrolled ws a.number ≡ false = sym there ∙ ap is_some c.in_err-place.ensures.ok_part in
-    let why = c.in_err-place.ensures.value ∙ ap (λ (o : Option Place). ok_or o NotEnrolled) c.in_err-place.ensures.ok_part in
+    let why = refusal_is (c.in_err-place.ensures.value ∙ ap (λ (o : Option Place). ok_or o NotEnrolled) c.in_err-place.ensures.ok_part) in
     rw (refused_is _ c.from_residual-in_err-place.result c.from_residual-in_err-place.ensures.1)
     (card_refused_is ws a.number a.k old
-    (why ∙ card_8 ws a.number a.k (length old) c.requires.0 c.requires.1 (sym asked) new) (not_done _)
-    (λ z. let e : ◌≡◌ {A = Given} (Err NotEnrolled) (Err ShortList) = sym why ∙ z in cc))
+    (ap Err why ∙ card_8 ws a.number a.k (length old) c.requires.0 c.requires.1 (sym asked) new) (not_done _)
+    (λ z. let e : ◌≡◌ {A = Given} (Err NotEnrolled) (Err ShortList) = sym (ap Err why) ∙ z in cc))
 
 pub returns : goal.returns
 returns c =
@@ -56,7 +56,7 @@ returns c =
     let new = c.put_card-names.new.list in
     let names = c.put_card-names.result in
     let asked = two_passed card_asked a.number a.k c.ranges.number c.ranges.k c.in_ok-card_asked.ensures in
-    let i = natural_passed a.number c.ranges.number c.natural-number.ensures in
+    let i = natural_passed a.number c.ranges.number c.natural-n.ensures in
     let there = sym (enrolled_told ws a.number i c.find.ensures) ∙ ap is_some c.in_ok-place.ensures.ok_part in
     let last = card_last ws a.number a.k (length old) c.requires.0 c.requires.1 (sym asked) there in
     let named : Named ws (nat_of a.number) (nat_of a.k) old new names =
