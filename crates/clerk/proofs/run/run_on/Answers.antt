@@ -7,7 +7,6 @@ use Rattle.figures.specs.Figures.{MOST}
 use Rattle.sheet.specs.Bytes.{FEED}
 use Rattle.sheet.proofs.Parted.{next_beyond}
 use Rattle.asking.specs.Slate.{Wide}
-use Rattle.jobs.specs.Job.{job_of}
 use Rattle.clerk.specs.Running.{lent, RanOne}
 use Rattle.clerk.proofs.Going.{Going, going_first, going_more}
 use Rattle.clerk.proofs.Slates.{wide_job, same_slate}
