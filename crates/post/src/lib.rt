@@ -41,7 +41,7 @@ pub fn or_tell<T, E: Write>(done: io::Result<T>, errors: &mut E, message: &[u8])
     ensures quiet { OnOk result (errors.new ≡ errors.old) }
 {
     if done.is_err() {
-        let _told = write_all(errors, message);
+        let _ = write_all(errors, message);
     }
     done
 }

@@ -2,5 +2,6 @@
 #![tactic(auto)]
 
 fn main(rt: HostRuntime) {
+    // What fails is told on standard error; the exit status stays 0.
     let _ = office::run(&mut rt.stdin(), &mut rt.stdout(), &mut rt.stderr());
 }
