@@ -55,9 +55,6 @@ slice_bounds-put_names-end c = holders_few _ c.names_in-n.ensures
 pub slice_bounds-put_names-end-then-n-list : goal.slice_bounds-put_names-end-then-n-list
 slice_bounds-put_names-end-then-n-list c = sym (holders_length _ c.names_in-n.ensures)
 
-pub put_names-requires : goal.put_names-requires
-put_names-requires c = omega (arith, holders_length _ c.names_in-n.ensures, c.if-n-list.true)
-
 pub returns-then-n-list : goal.returns-then-n-list
 returns-then-n-list c =
     let a = c.args in
