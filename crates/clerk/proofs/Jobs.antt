@@ -113,10 +113,6 @@ module _ {number : ℕ} {job : Job} {ws : Words} {old new : List ℕ} {g : Given
 -- ---- a query
 
 module _ {ws : Words} {q : Site} {k : ℤ} {s t : Slate} {old new : List ℕ} where
-  -- a callee that was passed k says it of k
-  pub query_told : (fits : SFits w32 k) {r : Answered} → AnswersAlone ws q (back k) s t old new r → AnswersAlone ws q k s t old new r
-  query_told fits {r} told = one_back (λ v. AnswersAlone ws q v s t old new r) k fits told
-
   module _ {r : Answered} (told : AnswersAlone ws q k s t old new r) where
     abbrev asked : Queried
     asked = after_query ws q k blank_list old
@@ -136,28 +132,29 @@ module _ {ws : Words} {q : Site} {k : ℤ} {s t : Slate} {old new : List ℕ} wh
     query_lists : Lists (Query q.x q.y k) ws old new r.given r.n (r.n ∷ r.m ∷ r.o ∷ take r.n new)
     query_lists = record { said = ap (ran.queried (lent ws old)) says; room = answers_fit }
 
-  pub answers_room : (r : Reply) → AnswersAlone ws q k s t old new (answered (Ok r)) → r.n ≤ length old
-  answers_room r told = (query_lists told).room refl
+  -- by the callee, which was passed k
+  module _ (fits : SFits w32 k) where
+    asked_of : {r : Answered} → AnswersAlone ws q (back k) s t old new r → Lists (Query q.x q.y k) ws old new r.given r.n (r.n ∷ r.m ∷ r.o ∷ take r.n new)
+    asked_of {r} told = query_lists (one_back (λ v. AnswersAlone ws q v s t old new r) k fits told)
 
-  pub answers_ran : {number : ℕ} {out : Bytes} {at : ℕ} {left : Bytes} {next : ℕ} (r : Reply) → AnswersAlone ws q k s t old new (answered (Ok r)) → length new ≡ length old
-      → Laid out at (output_line number QUERY 0 (length (take r.n new) ∷ r.m ∷ r.o ∷ take r.n new)) left next
-      → RanJob number (Query q.x q.y k) (lent ws old) (lent ws new) out at left next
-  answers_ran r told same laid =
-      let n : length (take r.n new) ≡ r.n = length-take-le r.n new (omega (arith, answers_room r told)) in
-      list_ran (query_lists told) 0 _ refl (ap (λ i. i ∷ r.m ∷ r.o ∷ take r.n new) n) laid
+    pub answers_room : (r : Reply) → AnswersAlone ws q (back k) s t old new (answered (Ok r)) → r.n ≤ length old
+    answers_room r told = (asked_of told).room refl
 
-  pub query_refused_ran : {number : ℕ} {out : Bytes} {at : ℕ} {left : Bytes} {next : ℕ} {b : ℕ} (e : Refused) → AnswersAlone ws q k s t old new (answered (Err e))
-      → b ≡ number_given (Err e.why) → Laid out at (output_line number QUERY b []) left next
-      → RanJob number (Query q.x q.y k) (lent ws old) (lent ws new) out at left next
-  query_refused_ran {b = b} e told given laid = list_ran (query_lists told) b [] given refl laid
+    pub answers_ran : {number : ℕ} {out : Bytes} {at : ℕ} {left : Bytes} {next : ℕ} (r : Reply) → AnswersAlone ws q (back k) s t old new (answered (Ok r)) → length new ≡ length old
+        → Laid out at (output_line number QUERY 0 (length (take r.n new) ∷ r.m ∷ r.o ∷ take r.n new)) left next
+        → RanJob number (Query q.x q.y k) (lent ws old) (lent ws new) out at left next
+    answers_ran r told same laid =
+        let n : length (take r.n new) ≡ r.n = length-take-le r.n new (omega (arith, answers_room r told)) in
+        list_ran (asked_of told) 0 _ refl (ap (λ i. i ∷ r.m ∷ r.o ∷ take r.n new) n) laid
+
+    pub query_refused_ran : {number : ℕ} {out : Bytes} {at : ℕ} {left : Bytes} {next : ℕ} {b : ℕ} (e : Refused) → AnswersAlone ws q (back k) s t old new (answered (Err e))
+        → b ≡ number_given (Err e.why) → Laid out at (output_line number QUERY b []) left next
+        → RanJob number (Query q.x q.y k) (lent ws old) (lent ws new) out at left next
+    query_refused_ran {b = b} e told given laid = list_ran (asked_of told) b [] given refl laid
 
 -- ---- a card
 
 module _ (ws : Words) (n k : ℤ) (old new : List ℕ) where
-  -- a callee that was passed n and k says it of them
-  pub card_told : SFits w32 n → SFits w32 k → (r : Carded) → Cards ws (back n) (back k) old new r → Cards ws n k old new r
-  card_told a b r told = two_back (λ u v. Cards ws u v old new r) n k a b told
-
   module _ (r : Carded) (told : Cards ws n k old new r) where
     names_fit : r.given ≡ Done → r.names ≤ length old
     unfolding after_card
@@ -170,17 +167,22 @@ module _ (ws : Words) (n k : ℤ) (old new : List ℕ) where
     card_lists : Lists (Card n k) ws old new r.given r.names (r.names ∷ take r.names new)
     card_lists = record { said = ap (ran.carded (lent ws old)) told; room = names_fit }
 
-  pub names_room : (names : ℕ) → Cards ws n k old new (carded (Ok names)) → names ≤ length old
-  names_room names told = (card_lists _ told).room refl
+  -- by the callee, which was passed n and k
+  module _ (f : SFits w32 n) (h : SFits w32 k) where
+    named_of : (r : Carded) → Cards ws (back n) (back k) old new r → Lists (Card n k) ws old new r.given r.names (r.names ∷ take r.names new)
+    named_of r told = card_lists r (two_back (λ u v. Cards ws u v old new r) n k f h told)
 
-  pub names_ran : {number : ℕ} {out : Bytes} {at : ℕ} {left : Bytes} {next : ℕ} (names : ℕ) → Cards ws n k old new (carded (Ok names)) → length new ≡ length old
-      → Laid out at (output_line number CARD 0 (length (take names new) ∷ take names new)) left next
-      → RanJob number (Card n k) (lent ws old) (lent ws new) out at left next
-  names_ran names told same laid =
-      let m : length (take names new) ≡ names = length-take-le names new (omega (arith, names_room names told)) in
-      list_ran (card_lists _ told) 0 _ refl (ap (λ i. i ∷ take names new) m) laid
+    pub names_room : (names : ℕ) → Cards ws (back n) (back k) old new (carded (Ok names)) → names ≤ length old
+    names_room names told = (named_of _ told).room refl
 
-  pub card_refused_ran : {number : ℕ} {out : Bytes} {at : ℕ} {left : Bytes} {next : ℕ} {b : ℕ} (e : Refused) → Cards ws n k old new (carded (Err e))
-      → b ≡ number_given (Err e.why) → Laid out at (output_line number CARD b []) left next
-      → RanJob number (Card n k) (lent ws old) (lent ws new) out at left next
-  card_refused_ran {b = b} e told given laid = list_ran (card_lists _ told) b [] given refl laid
+    pub names_ran : {number : ℕ} {out : Bytes} {at : ℕ} {left : Bytes} {next : ℕ} (names : ℕ) → Cards ws (back n) (back k) old new (carded (Ok names)) → length new ≡ length old
+        → Laid out at (output_line number CARD 0 (length (take names new) ∷ take names new)) left next
+        → RanJob number (Card n k) (lent ws old) (lent ws new) out at left next
+    names_ran names told same laid =
+        let m : length (take names new) ≡ names = length-take-le names new (omega (arith, names_room names told)) in
+        list_ran (named_of _ told) 0 _ refl (ap (λ i. i ∷ take names new) m) laid
+
+    pub card_refused_ran : {number : ℕ} {out : Bytes} {at : ℕ} {left : Bytes} {next : ℕ} {b : ℕ} (e : Refused) → Cards ws (back n) (back k) old new (carded (Err e))
+        → b ≡ number_given (Err e.why) → Laid out at (output_line number CARD b []) left next
+        → RanJob number (Card n k) (lent ws old) (lent ws new) out at left next
+    card_refused_ran {b = b} e told given laid = list_ran (named_of _ told) b [] given refl laid

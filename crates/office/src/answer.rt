@@ -36,8 +36,7 @@ fn answer_lines<W: Write>(
     let mut number = 1;
     while at < sheet.len() {
         let run = run_lines(sheet, at, number, table, answers, out);
-        let filled = run.filled;
-        write_all(output, &out[..filled])?;
+        write_all(output, &out[..run.filled])?;
         at = run.at;
         number = run.number;
     }

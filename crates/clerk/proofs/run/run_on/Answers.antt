@@ -1,6 +1,6 @@
 -- `clerk::run::run_on` meets its contract, line by line. Assumes nothing.
 use Prim.Native.Nat.{◌+◌}
-use mathlib.Core.Path.{refl, sym, subst}
+use mathlib.Core.Path.{sym, subst}
 use native.Mathlib.Omega.{arith}
 use borrow.Author.Rules.{rules}
 use Rattle.figures.specs.Figures.{MOST}
@@ -18,7 +18,7 @@ loop-run-init c =
     let a = c.args in
     let before = lent a.table.now a.answers.now in
     let r = c.requires in
-    (going_first a.sheet.now a.at a.number before a.out.now (record { long = r.0.0; words = c.are_words.ensures; rules = r.0.1 }) r.2, refl, r.1, search rules)
+    (going_first a.sheet.now a.at a.number before a.out.now (record { long = r.0.0; words = c.are_words.ensures; rules = r.0.1 }) r.2, r.1, search rules)
 
 pub loop-run-smaller : goal.loop-run-smaller
 loop-run-smaller c =
@@ -37,9 +37,8 @@ loop-run-preserved c =
     let ran = subst (λ b. RanOne o.run.number b now after o.out o.run.filled e.slip.out.now e.slip.at) c.line_here-line.ensures y.ensures.ran in
     let going =
     subst (λ n. Going sheet a.at a.number before a.out.now after e.slip.out.now (record { at = n; number = o.run.number + 1; filled = e.slip.at })) (sym c.next_here.ensures)
-    (going_more sheet a.at a.number before a.out.now o.invariant.0 (omega (arith, c)) (omega (arith, c, o.invariant.1)) ran y.auto.answers) in (
+    (going_more sheet a.at a.number before a.out.now o.invariant.0 (omega (arith, c)) (omega (arith, c)) ran y.auto.answers) in (
       subst (λ left. Going sheet a.at a.number before a.out.now after left (record { at = c.next_here.result; number = o.run.number + 1; filled = e.slip.at })) (search rules) going,
-      search rules,
-      subst (Wide MOST) (sym y.ensures.slate) (wide_job now _ o.invariant.2),
-      same_slate o.invariant.3 y.ensures.lent,
+      subst (Wide MOST) (sym y.ensures.slate) (wide_job now _ o.invariant.1),
+      same_slate o.invariant.2 y.ensures.lent,
     )
