@@ -5,7 +5,7 @@ use mathlib.Core.Path.{◌≡◌, sym, ap, ◌∙◌}
 use mathlib.Core.Bool.{true, false, cond, ◌&&◌}
 use mathlib.Core.List.{List, map, map-map}
 use lib.Dec.{leb, eqb}
-use lib.ListN.{length, take, drop, length-append}
+use lib.ListN.{length, take}
 use lib.Seq.{take_at}
 use borrow.Author.Tests.{eqb-true}
 use Rattle.grid.specs.declared.place.Place.{Place}
@@ -119,9 +119,6 @@ module _ {ws : Words} (t : Passing ws) where
       passing_answers = ap (λ (es : List Entry). rising (numbers_passing ws p k es)) seen_back ∙ passing_right
 
       module _ (m : ℕ) (kept spare : List ℕ) (counted : m ≡ length passing) (laid : kept ≡ laid_over passing spare) where
-        pub kept_room : m ≤ length kept
-        kept_room = omega (arith, counted, ap length laid, length-append passing (drop (length passing) spare))
-
         taken : take m kept ≡ passing
         taken = ap (take m) laid ∙ take_at passing _ m (sym counted)
 

@@ -4,6 +4,7 @@ ghost use Rattle.std.specs.Prelude.{◌≡◌, ◌≤◌, length, take};
 use filter::rows::Rows;
 
 // The rows of its walk, and the numbers of the candidates that pass its final test.
+// Kept: how wide it is, each call asks for itself: `answer` for room for the points there are (`Askable`), the calls of desk for 500, which as an invariant would ask more of who calls `answer`.
 #[derive(Drop)]
 pub struct Slate<'a> {
     pub rows: Rows<'a>,

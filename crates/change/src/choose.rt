@@ -23,6 +23,7 @@ fn takes_before(new: Rect, r: Rect, s: Rect) -> bool
     is_better(r.growth(new), r.area(), s.growth(new), s.area())
 }
 
+// Kept: that the boxes of a node are on the grid is asked here and in share, and is no invariant of Node: `page_of` of table/specs reads nodes of any words.
 // The place of the entry that takes the newcomer; of equal ones the lowest, so a later one must be better.
 pub fn choose(n: Node, new: Rect) -> usize
     requires { (0 < n.count) × RectOnGrid new × All (λ e. RectOnGrid e.rect) (held n) }

@@ -19,6 +19,7 @@ use jobs::job::{Job, job_of};
 use slip::Slip;
 use table::given::{Refusal, number_given};
 
+// Kept: that the slip has room for one more line speaks of the slip with the answer list, and so is no invariant of the slip. The list itself is the caller's: the slate is written on and read by nobody.
 // A query: its counts and its answers follow if it is granted. It writes on the slate.
 fn run_query(
     q: Site,

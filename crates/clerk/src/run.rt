@@ -14,6 +14,7 @@ use slip::Slip;
 use words::lent::are_words;
 
 // How far the sheet has been run: the place where the next line starts, its number, and how many bytes stand in the buffer.
+// Kept: how much of the lent buffer is filled goes back as a number, no Vec (no heap).
 #[derive(Clone, Copy)]
 pub struct Run {
     pub at: usize,

@@ -12,3 +12,4 @@ pub mod CallCard
 pub mod Exits
 pub mod Once
 pub mod PassedOn
+pub mod Slates

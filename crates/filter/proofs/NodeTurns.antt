@@ -52,10 +52,6 @@ module _ {Q : Entry → Type 0} {q : Place} {k : ℕ} {f : Entry → Found → F
         done = λ r' s' m. turn_done t.turning i noted there e taken m;
       }
 
-  -- after the last
-  pub turns_end : (i : ℕ) → length es ≤ i → take i (nearest_first q k es) ≡ nearest_first q k es
-  turns_end i h = take_all i (nearest_first q k es) (omega (arith, taken_length es q k))
-
 -- ---- the points of a leaf
 
 abbrev pub IsPoint : Entry → Type 0
@@ -124,14 +120,6 @@ IsChild ws l e = Upright e.rect × Passable l ws e.reference
 
 -- the walk from the slot s of level l is ready
 module _ (q : Place) (k : ℕ) (ws : Words) (s l : ℕ) (first : Rows) (seen : Seen) (ready : Ready q (walk q k l ws s) first seen) where
-  pub leaf_ready : l ≡ 0 → Ready q (each (visited q k) (nearest_first q k (entries_at ws s))) first (record { candidates = seen.candidates; opened = seen.opened + 1 })
-  leaf_ready z = record {
-    grid = ready.grid;
-    kept = ready.kept;
-    room = rw (← walk_zero q k ws s l z (found_in q first seen)) ready.room;
-    opened = rw (← walk_zero q k ws s l z (found_in q first seen)) ready.opened;
-  }
-
   pub above_turns : 0 < l → Passable l ws s
       → Turns (IsChild ws (l - 1)) q k (entered q k (walk q k (l - 1) ws)) (entries_at ws s) (with_opened q k (found_in q first seen)) first
   above_turns up pass =

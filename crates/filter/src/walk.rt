@@ -42,6 +42,8 @@ fn visit_leaf(
     so_far
 }
 
+// Kept: q, k, the rows and how far the walk has come stand side by side: as fields of one lent walk, each promise would have to say that q and k stay, no plainer.
+// Nor is Passable an invariant: it speaks of the table with one slot of it.
 // The node in a slot, and what is below it.
 pub fn walk(
     table: &Words,

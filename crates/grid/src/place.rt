@@ -6,6 +6,7 @@ ghost use Rattle.grid.specs.AsNear.{as_near};
 use crate::rect::Rect;
 use axis::span::{Span, square};
 
+// Kept: that a place is on the grid is asked where it counts, and is no invariant: `place_of` of specs/Site.antt, which demand 2 cites, makes a place of any two words.
 #[derive(Clone, Copy, PartialEq, Eq)]
 pub struct Place {
     pub x: u64,

@@ -5,6 +5,7 @@ ghost use Rattle.grid.specs.Place.{PlaceOnGrid, RectOnGrid, rect_grown, area_of,
 use crate::place::Place;
 use axis::span::{Span, beyond};
 
+// Kept: that it is on the grid is asked where it counts, and is no invariant: rule 6 (`same_rect` of rules/specs) compares the rectangles of any words.
 #[derive(Clone, Copy, PartialEq, Eq)]
 pub struct Rect {
     pub x: Span,

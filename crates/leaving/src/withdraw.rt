@@ -58,6 +58,7 @@ fn share_out(table: &mut Words, c: usize, d: usize, joint: Node)
     slot::put_node_at(table, d, all.rest(half));
 }
 
+// Kept: what is asked of it below (Joinable, Mendable) speaks of the table with it, and so is no invariant of its own; a place among its children is asked for as an index is.
 // A node above the leaves, and the slot that it stands in.
 #[derive(Clone, Copy)]
 struct Parent {

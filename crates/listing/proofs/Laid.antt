@@ -11,10 +11,7 @@ use Rattle.rules.proofs.Counted.{up_append}
 use Rattle.filter.specs.Query.{laid_over}
 use Rattle.filter.proofs.RowLaws.{laid_set}
 use Rattle.record.specs.declared.Candidate.{Candidate}
-use Rattle.listing.specs.Records.{candidate_in, candidates_in, Readable}
-
-pub candidate_ext : {c d : Candidate} → c.number ≡ d.number → c.x ≡ d.x → c.y ≡ d.y → c.square ≡ d.square → c ≡ d
-candidate_ext n x y s = λ i. record { number = n i; x = x i; y = y i; square = s i }
+use Rattle.listing.specs.Records.{candidate_in, candidates_in}
 
 map_more : {A : Type 0} (f : ℕ → A) (i : ℕ) → map f (up_from 0 (i + 1)) ≡ map f (up_from 0 i) ++ f i ∷ []
 map_more f i =
@@ -42,13 +39,3 @@ module _ (q : Site) (ns xs ys : List ℕ) where
       ∙ ap (λ (j : ℕ). set (laid_over new old) j (c i)) (sym n)
       ∙ laid_set new old (c i) (omega (arith, n))
       ∙ ap (λ (l : List Candidate). laid_over l old) (sym (map_more c i))
-
-  -- and can be read, as all of the first m
-  pub readable_at : {m : ℕ} → Readable q ns xs ys m → (i : ℕ) → i < m → Readable q ns xs ys (i + 1)
-  readable_at r i h = record {
-    place = r.place;
-    room_number = omega (arith, r.room_number);
-    room_x = omega (arith, r.room_x);
-    room_y = omega (arith, r.room_y);
-    grid = λ j l. r.grid j (omega arith);
-  }

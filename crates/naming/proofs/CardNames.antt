@@ -12,6 +12,7 @@ use lib.Dec.{eqb, ltb}
 use lib.ListN.{length, take, get_or, set, replicate, length-map, length-replicate}
 use lib.Seq.{take-suc, length-take-le}
 use borrow.Author.Tests.{eqb-true, le-leb, lt-leb, lt-ltb, le-ltb}
+use Rattle.std.specs.Prelude.{Some}
 use Rattle.grid.specs.declared.place.Place.{Place}
 use Rattle.grid.specs.Place.{PlaceOnGrid, dist²}
 use Rattle.grid.specs.Site.{distance², place_of}
@@ -43,7 +44,6 @@ use Rattle.vetting.proofs.Below.{root_count}
 use Rattle.vetting.proofs.Testing.{all_points}
 use Rattle.card.specs.Card.{in_card_order, card_of, names_of, names_of_first, names_for}
 use Rattle.card.proofs.Lines.{order_perm, in_line}
-use Rattle.std.specs.Prelude.{Some}
 use Rattle.naming.specs.Holders.{BASE, mark_of, number_in, mark_from, is_another, marks_of}
 use Rattle.naming.specs.Named.{where_in, where_of, Named}
 

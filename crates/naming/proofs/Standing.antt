@@ -1,14 +1,12 @@
--- Where a station stands: the first with its number, entry by entry and slot by slot. Assumes nothing.
-use Prim.Native.Nat.{ℕ, suc, ◌+◌, ◌-◌, ◌≤◌, ◌<◌}
+-- Where a station stands: the first with its number, slot by slot. Assumes nothing.
+use Prim.Native.Nat.{ℕ, suc, ◌+◌, ◌-◌, ◌<◌}
 use native.Mathlib.Omega.{arith}
 use native.Mathlib.Numerals.{add-one}
 use mathlib.Core.Path.{◌≡◌, refl, sym, ap, ◌∙◌}
 use mathlib.Core.Bool.{cond}
 use mathlib.Core.List.{List, [], ◌∷◌, ◌++◌}
 use lib.Dec.{eqb}
-use lib.ListN.{length, drop, get_or}
-use lib.Seq.{drop-cons}
-use borrow.Author.Tests.{eq-eqb, ne_eqb}
+use Rattle.std.specs.Prelude.{Option, Some, None}
 use Rattle.grid.specs.declared.place.Place.{Place}
 use Rattle.order.specs.Lists.{join}
 use Rattle.order.specs.Order.{up_from}
@@ -16,24 +14,11 @@ use Rattle.order.proofs.Lists.{by_bool}
 use Rattle.figures.specs.Figures.{SLOTS}
 use Rattle.table.specs.declared.node.Entry.{Entry}
 use Rattle.table.specs.Words.{Words}
-use Rattle.table.specs.Page.{blank_entry}
 use Rattle.rules.specs.Rules.{leaf_entries}
 use Rattle.filter.specs.Walk.{spot_in}
-use Rattle.std.specs.Prelude.{Option, Some, None}
 use Rattle.naming.specs.Named.{where_in, where_of}
 
 module _ (number : ℕ) where
-  -- ---- entry by entry
-
-  module _ (es : List Entry) (i : ℕ) (h : i < length es) where
-    pub stands_here : (get_or es i blank_entry).reference ≡ number → where_in number (drop i es) ≡ Some (spot_in (get_or es i blank_entry))
-    stands_here e = rw (drop-cons es i blank_entry h, eq-eqb (get_or es i blank_entry).reference number e)
-
-    pub stands_further : ((get_or es i blank_entry).reference ≡ number → ⊥) → where_in number (drop (i + 1) es) ≡ where_in number (drop i es)
-    stands_further e = rw (add-one i, drop-cons es i blank_entry h, ne_eqb (get_or es i blank_entry).reference number e)
-
-  -- ---- slot by slot
-
   -- those before come first
   where_there : (xs ys : List Entry) (w : Option Place) → where_in number xs ≡ w → (w ≡ None → ⊥) → where_in number (xs ++ ys) ≡ w
   where_there [] ys w e n = absurd (n (sym e))
@@ -62,11 +47,6 @@ module _ (number : ℕ) where
         → where_in number (join f (up_from (slot + 1) (n - (slot + 1)))) ≡ where_in number (join f (up_from slot (n - slot)))
     slot_further e =
         sym (ap (λ l. where_in number (join f l)) next_slot ∙ where_behind (f slot) (join f (up_from (slot + 1) (n - (slot + 1)))) e)
-
-  pub no_slot : (f : ℕ → List Entry) (n slot : ℕ) → n ≤ slot → where_in number (join f (up_from slot (n - slot))) ≡ None
-  no_slot f n slot h =
-      let e : n - slot ≡ 0 = omega arith in
-      rw e
 
 -- ---- by the case of the answer
 

@@ -1,6 +1,5 @@
 // Down the tree for a card: the entries of a node nearest first, up to the first box that cannot hold a better holder than those found.
 ghost use Rattle.std.specs.Prelude.{◌≡◌, true, [], ◌∷◌, ◌++◌, ◌<◌, length};
-ghost use Rattle.grid.specs.Place.{PlaceOnGrid};
 ghost use Rattle.order.specs.Lists.{All, Rises};
 ghost use Rattle.order.specs.Order.{least};
 ghost use Rattle.figures.specs.Figures.{SLOTS};
@@ -20,7 +19,7 @@ use table::slot::{count_at, entry_at};
 
 // One point: the station itself is on no card of its own.
 fn offer_point(e: Entry, holder: Holder, best: &mut [u64])
-    requires { (is_point e ≡ true) × PlaceOnGrid holder.place × (0 < length best.old) × Rises best.old }
+    requires { (is_point e ≡ true) × (0 < length best.old) × Rises best.old }
     ensures { best.new ≡ least (length best.old) (marks_of holder.number holder.place (e ∷ []) ++ best.old) }
 {
     let other = e.reference;
@@ -32,7 +31,7 @@ fn offer_point(e: Entry, holder: Holder, best: &mut [u64])
 
 // The points of a leaf, in any order.
 fn offer_leaf(table: &Words, slot: usize, holder: Holder, best: &mut [u64])
-    requires within { (slot < SLOTS) × PlaceOnGrid holder.place }
+    requires within { slot < SLOTS }
     requires all { All (λ e. is_point e ≡ true) (entries_at table.now slot) × (0 < length best.old) × Rises best.old }
     ensures { best.new ≡ least (length best.old) (marks_of holder.number holder.place (entries_at table.now slot) ++ best.old) }
 {
@@ -44,7 +43,7 @@ fn offer_leaf(table: &Words, slot: usize, holder: Holder, best: &mut [u64])
 
 // All points below a node.
 pub fn offer_below(table: &Words, slot: usize, level: usize, holder: Holder, best: &mut [u64])
-    requires passable { PlaceOnGrid holder.place × Passable level table.now slot × Boxed level table.now slot }
+    requires passable { Passable level table.now slot × Boxed level table.now slot }
     requires best { (0 < length best.old) × Rises best.old }
     ensures { best.new ≡ least (length best.old) (marks_of holder.number holder.place (below_of level table.now slot) ++ best.old) }
 {

@@ -1,6 +1,6 @@
--- What depends on the answer of a call: on whether it is refusal 10, and whether it is a refusal at all.
-use Rattle.std.specs.Prelude.{Bool, true, false, Ok, Err}
-use Rattle.table.specs.Given.{Given, if_done}
+-- What depends on whether the answer of a call is refusal 10.
+use Rattle.std.specs.Prelude.{Ok, Err}
+use Rattle.table.specs.Given.{Given}
 use Rattle.table.specs.declared.given.Refusal.{Refusal}
 use Rattle.table.specs.declared.given.Refusal.TheVariants.{
   WrongLength,
@@ -36,7 +36,3 @@ if_short SheetTooLong a b = b
 abbrev pub if_short_list : {A : Type 0} → Given → A → A → A
 if_short_list (Ok u) a b = b
 if_short_list (Err r) a b = if_short r a b
-
--- the answer is a refusal
-abbrev pub refuses : Given → Bool
-refuses g = if_done g false true

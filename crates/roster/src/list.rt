@@ -11,6 +11,7 @@ use slip::Slip;
 use table::given::Refusal;
 
 // How many bytes stand in the two buffers.
+// Kept: two numbers beside two lent buffers, no Vec (no heap).
 #[derive(Clone, Copy)]
 pub struct Filled {
     pub lines: usize,

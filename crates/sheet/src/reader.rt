@@ -6,6 +6,7 @@ ghost use Rattle.sheet.specs.Marks.{line_of, next_of};
 use crate::lines::{line_at, next_at};
 
 // at is where the next line starts; at the sheet's length there is none.
+// Kept: that at is no further than that is asked by `line`, and is no invariant: `at` and `next` promise a reader of any place (what may not change).
 #[derive(Clone, Copy)]
 pub struct Reader<'a> {
     pub sheet: &'a [u8],

@@ -12,6 +12,7 @@ pub struct Entry {
 }
 
 // A split looks at nine entries and a join at ten, so there is room for ten.
+// Kept: an array of ten with a count beside, no Vec (no heap): a node goes by value, and its words are read into it.
 #[derive(Clone, Copy)]
 pub struct Node {
     pub level: usize,

@@ -67,6 +67,7 @@ pub fn node_of(part: &Part) -> Node
     }
 }
 
+// Kept: that an entry fits its words is asked where it is written, and is no invariant: `entry_of` of specs/Page.antt reads entries of any words.
 // Kept: a slice and its length, in the three functions that write; what is written through `as_mut_array().unwrap()` was not known to come back (tried).
 pub fn put_entry(part: &mut [i32], i: usize, e: Entry)
     requires { (length part.old ≡ WIDTH) × (i < FAN) × EntryFits e }

@@ -10,6 +10,8 @@ use crate::part::{self, Part};
 use figures::{Table, Words};
 use words::border;
 
+// Kept: a slot as a number below SLOTS, beside the table. A table that is not well formed may name any number, and an entry's reference is a point's number too, so a type
+// of slots would be made and taken apart at each entry; and one that held the loan of the table would forbid the writes of a walk that holds several, no plainer.
 // Where a slot's words start, and those of the slot before it end.
 fn start(slot: usize) -> usize
     requires { slot ≤ SLOTS }

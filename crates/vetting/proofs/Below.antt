@@ -113,6 +113,11 @@ child_at_lem ws s l up pass boxed i h =
       all_at (Box ws (l - 1)) es i blank_entry h (boxed_above ws s l up boxed),
     )
 
+-- so of the entry that is read there
+pub child_read : (ws : Words) (s l : ℕ) → 0 < l → Passable l ws s × Boxed l ws s → (i : ℕ) {e : Entry} → i < length (entries_at ws s) → e ≡ get_or (entries_at ws s) i blank_entry
+    → IsChild ws (l - 1) e × Box ws (l - 1) e
+child_read ws s l up good i h read = rw read (child_at_lem ws s l up good.0 good.1 i h)
+
 -- ---- in a stored tree
 
 pub below_tree : {lo : ℕ} (l : ℕ) (t : Tree l) (ws : Words) → Good lo l t → Stored l ws t → below l ws (top_of l t) ≡ leaves_of l t

@@ -30,6 +30,7 @@ pub fn on_grid(w: i32) -> bool
     step_on_grid(steps(w))
 }
 
+// Kept: here and below a row and a place in it as two, as an index takes them; a struct of the two would be made for each word that is read, no plainer.
 // A coordinate, as steps from the false origin.
 pub fn steps_at(words: &[i32], at: usize) -> u64
     requires { at < length words.now }

@@ -29,7 +29,9 @@ all-requires-clause-callable c =
     let inside : All (λ e. e.reference < SLOTS) es =
     rw (c.held.ensures, c.node_at-n.ensures.entries) (children_inside c.args.table.now c.args.slot above c.requires.1) in
     serves_from_places (YieldsList-from_slice es c.iter.ensures.rest) (λ x q r. search rules)
-    (λ x k h e _ _ _ _ _ _ _. subst (λ (y : Entry). y.reference < SLOTS) (sym e) (all_at (λ y. y.reference < SLOTS) es k x.now h inside))
+    (λ x k h e.
+    let low : x.now.reference < SLOTS = subst (λ (y : Entry). y.reference < SLOTS) (sym e) (all_at (λ y. y.reference < SLOTS) es k x.now h inside) in
+    search rules)
 
 pub returns : goal.returns
 unfolding rule6 entry_for

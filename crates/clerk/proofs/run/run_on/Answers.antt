@@ -7,9 +7,10 @@ use Rattle.figures.specs.Figures.{MOST}
 use Rattle.sheet.specs.Bytes.{FEED}
 use Rattle.sheet.proofs.Parted.{next_beyond}
 use Rattle.asking.specs.Slate.{Wide}
+use Rattle.desk.proofs.Slates.{same_slate}
 use Rattle.clerk.specs.Running.{lent, RanOne}
 use Rattle.clerk.proofs.Going.{Going, going_first, going_more}
-use Rattle.clerk.proofs.Slates.{wide_job, same_slate}
+use Rattle.clerk.proofs.Slates.{wide_job}
 use Rattle.clerk.proofs.run.run_on.Goals as goal
 
 pub loop-run-init : goal.loop-run-init

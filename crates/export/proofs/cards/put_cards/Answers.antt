@@ -28,8 +28,8 @@ loop-number-preserved c =
     let l = c.loop-number in
     let laid = l.invariant in
     let part = mid_of l.at (l.at + 16 - l.at) l.cards in
-    let new = c.card_passing.new.list in
+    let new = c.card_passing-names.new.list in
     let fits : SFits w32 (get_or a.numbers.now l.number-index (pos 0)) = search rules in
     let listed : new ≡ (after_card a.table.now (get_or a.numbers.now l.number-index (pos 0)) (back a.k) part).list =
-    one_passed (λ n. (after_card a.table.now n (back a.k) part).list) (get_or a.numbers.now l.number-index (pos 0)) fits (ap (λ (z : Listed). z.list) c.card_passing.ensures) in
-    laid_next a.table.now (back a.k) a.numbers.now a.cards.now l.number-index l.at l.cards laid c.loop-number-test.true (omega (arith, c.if-cards-at-lt-PLACES.false, laid.long, laid.within)) new listed c.card_passing.auto.list
+    one_passed (λ n. (after_card a.table.now n (back a.k) part).list) (get_or a.numbers.now l.number-index (pos 0)) fits (ap (λ (z : Listed). z.list) c.card_passing-names.ensures) in
+    laid_next a.table.now (back a.k) a.numbers.now a.cards.now l.number-index l.at l.cards laid c.loop-number-test.true (omega (arith, c.if-cards-at-lt-PLACES.false, laid.long, laid.within)) new listed c.card_passing-names.auto.list

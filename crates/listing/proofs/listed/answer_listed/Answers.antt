@@ -4,11 +4,14 @@ use Prim.Native.Nat.{ℕ}
 use mathlib.Core.Path.{◌≡◌}
 use mathlib.Core.List.{List}
 use lib.ListN.{length}
+use Rattle.grid.specs.declared.site.Site.{Site}
 use Rattle.grid.proofs.Sites.{SiteOnGrid}
 use Rattle.table.specs.Words.{Words, points_of}
 use Rattle.rules.specs.Rules.{Passing}
 use Rattle.filter.specs.Rows.{rows}
-use Rattle.asking.specs.Slate.{Wide}
+use Rattle.asking.specs.declared.answer.Reply.{Reply}
+use Rattle.asking.specs.Slate.{Slate, Wide}
+use Rattle.asking.specs.Asked.{Replied}
 use Rattle.listing.proofs.Outcome.{readable, listed_few, lists}
 use Rattle.asking.proofs.Outcome.{points_most}
 use Rattle.listing.proofs.listed.answer_listed.Goals as goal
@@ -31,19 +34,26 @@ answer-reply-requires c = record {
   room = wide c.requires.table _ _ _ _ _ (search rules) (search rules) (search rules) (search rules) (search rules);
 }
 
+-- so is the slate that a query was answered on
+was_wide : {ws : Words} (t : Passing ws) {q : Site} {k : ℕ} {ns xs ys bs ks : List ℕ} {after : Slate} {old new : List ℕ} {r : Reply}
+    → Replied ws q k (record { noted = rows ns xs ys bs; kept = ks }) after old new r
+    → length ns ≡ 500 → length xs ≡ 500 → length ys ≡ 500 → length bs ≡ 500 → length ks ≡ 500 → Wide (points_of ws) (record { noted = rows ns xs ys bs; kept = ks })
+was_wide t {ns = ns} {xs = xs} {ys = ys} {bs = bs} {ks = ks} answered = wide t ns xs ys bs ks
+
 pub hand_over-requires : goal.hand_over-requires
 hand_over-requires c =
     let a = c.args in
     let t = c.requires.table in
     let grid : SiteOnGrid a.q = record { x = c.requires.x; y = c.requires.y } in
-    let w = wide t _ _ _ _ _ (search rules) (search rules) (search rules) (search rules) (search rules) in
-    let few = listed_few t _ grid a.k w c.answer-reply.ensures.replied in
-    (readable t _ grid a.k w c.answer-reply.ensures.replied, omega (arith, few, c.requires.room))
+    let answered = c.answer-reply.ensures.replied in
+    let w = was_wide t answered (search rules) (search rules) (search rules) (search rules) (search rules) in
+    (readable t _ grid a.k w answered, omega (arith, listed_few t _ grid a.k w answered, c.requires.room))
 
 pub returns : goal.returns
 returns c =
     let a = c.args in
     let t = c.requires.table in
     let grid : SiteOnGrid a.q = record { x = c.requires.x; y = c.requires.y } in
-    let w = wide t _ _ _ _ _ (search rules) (search rules) (search rules) (search rules) (search rules) in
-    lists t _ grid a.k w c.answer-reply.ensures.replied a.list.now c.hand_over.new.list c.hand_over.ensures
+    let answered = c.answer-reply.ensures.replied in
+    let w = was_wide t answered (search rules) (search rules) (search rules) (search rules) (search rules) in
+    lists t _ grid a.k w answered a.list.now c.hand_over.new.list c.hand_over.ensures

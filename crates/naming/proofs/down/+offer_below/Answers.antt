@@ -29,7 +29,7 @@ pub nearest-row-requires-clause-all : goal.nearest-row-requires-clause-all
 nearest-row-requires-clause-all t c =
     let a = c.args in
     all_then (IsChild a.table.now (a.level - 1)) (λ e. RectOnGrid e.rect) (λ e h. h.0.grid) (entries_at a.table.now a.slot)
-    (passable_above a.table.now a.slot a.level (up c.if-level-eq0.false) c.requires.passable.1)
+    (passable_above a.table.now a.slot a.level (up c.if-level-eq0.false) c.requires.passable.0)
 
 pub slice_bounds-row-end : goal.slice_bounds-row-end
 slice_bounds-row-end t c =
@@ -49,7 +49,7 @@ loop-at-init t c =
 pub entry_at-e-requires : goal.entry_at-e-requires
 entry_at-e-requires t c =
     let a = c.args in (
-      passable_slot a.level a.table.now a.slot c.requires.passable.1,
+      passable_slot a.level a.table.now a.slot c.requires.passable.0,
       turn_below a.table.now a.slot a.holder.place _ _ c.count_at.ensures c.nearest-row.ensures c.loop-at.at-index c.loop-at-test.true,
     )
 
@@ -57,8 +57,8 @@ pub least_square-requires : goal.least_square-requires
 least_square-requires t c =
     let a = c.args in
     let child = turn_child a.table.now a.slot a.holder.place _ _ c.count_at.ensures c.nearest-row.ensures c.loop-at.at-index c.loop-at-test.true c.entry_at-e.ensures
-    a.level (up c.if-level-eq0.false) c.requires.passable.1 c.requires.passable.2 in
-    (child.0.0.grid, c.requires.passable.0)
+    a.level (up c.if-level-eq0.false) c.requires.passable.0 c.requires.passable.1 in
+    (child.0.0.grid, a.holder.on_grid)
 
 -- the row is done: the box lies beyond
 pub returns-then-is_beyond : goal.returns-then-is_beyond
@@ -74,20 +74,20 @@ returns-then-is_beyond t c =
     (omega (arith, c.loop-at-test.true, turns_length a.table.now a.slot a.holder.place _ _ c.count_at.ensures c.nearest-row.ensures, c.count_at.ensures))
     c.loop-at.invariant c.requires.best.0
     (all_then (Box a.table.now (a.level - 1)) (λ e. All (λ c. Inside (spot_in c) e.rect) (under a.table.now a.level e)) (λ e h. h.0) es
-    (boxed_above a.table.now a.slot a.level (up c.if-level-eq0.false) c.requires.passable.2))
+    (boxed_above a.table.now a.slot a.level (up c.if-level-eq0.false) c.requires.passable.1))
     (subst (λ (e : Entry). square_in (get_or best (length best - 1) 0) < least_square e.rect a.holder.place) taken far))
 
 pub offer_below-requires : goal.offer_below-requires
 offer_below-requires t c =
     let a = c.args in
     let child = turn_child a.table.now a.slot a.holder.place _ _ c.count_at.ensures c.nearest-row.ensures c.loop-at.at-index c.loop-at-test.true c.entry_at-e.ensures
-    a.level (up c.if-level-eq0.false) c.requires.passable.1 c.requires.passable.2 in
+    a.level (up c.if-level-eq0.false) c.requires.passable.0 c.requires.passable.1 in
     let best = c.loop-at.best in
     let S = under a.table.now a.level in
     let row = nearest_first a.holder.place 0 (entries_at a.table.now a.slot) in (
       omega (arith, c.decreases, c.if-level-eq0.false),
       (
-        (c.requires.passable.0, child.0.1, child.1.1),
+        (child.0.1, child.1.1),
         (
           omega (arith, sofar_long a.holder.number a.holder.place S row a.best.now c.loop-at.at-index best c.loop-at.invariant, c.requires.best.0),
           sofar_rises a.holder.number a.holder.place S row a.best.now c.loop-at.at-index best c.loop-at.invariant,

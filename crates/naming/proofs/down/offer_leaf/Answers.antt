@@ -29,7 +29,6 @@ offer_point-requires c =
     let es = entries_at a.table.now a.slot in
     let best = c.loop-i.best in (
       rw c.entry_at-e.ensures (all_at (λ e. is_point e ≡ true) es c.loop-i.i blank_entry inside c.requires.all.0),
-      c.requires.within.1,
       omega (arith, sofar_long a.holder.number a.holder.place alone es a.best.now c.loop-i.i best c.loop-i.invariant, c.requires.all.1),
       sofar_rises a.holder.number a.holder.place alone es a.best.now c.loop-i.i best c.loop-i.invariant,
     )

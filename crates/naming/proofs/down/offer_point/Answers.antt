@@ -18,14 +18,14 @@ use Rattle.naming.proofs.down.offer_point.Goals as goal
 pub returns-then-other-holder : goal.returns-then-other-holder
 returns-then-other-holder c =
     let row = c.args.best.now in
-    least_row (length row) row refl c.requires.3
+    least_row (length row) row refl c.requires.2
     ∙ ap (λ (ms : List ℕ). least (length row) (ms ++ row)) (sym (marks_itself c.args.holder.number c.args.holder.place c.args.e c.if-other-holder.true))
 
 pub mark_of-requires : goal.mark_of-requires
 mark_of-requires c =
     let spot_grid : PlaceOnGrid (spot_in c.args.e) =
     let g = point c.args.e c.requires.0 in record { x = g.x.grid; y = g.y.grid } in (
-      omega (arith, c.square_to.ensures, ap (λ (s : Place). dist² s c.args.holder.place) c.spot_in.ensures, dist_most (spot_grid) c.requires.1),
+      omega (arith, c.square_to.ensures, ap (λ (s : Place). dist² s c.args.holder.place) c.spot_in.ensures, dist_most (spot_grid) c.args.holder.on_grid),
       omega (arith, (point c.args.e c.requires.0).most),
     )
 

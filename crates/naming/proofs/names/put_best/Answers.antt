@@ -11,7 +11,7 @@ use Rattle.filter.proofs.Opening.{root_passable}
 use Rattle.vetting.specs.Test.{below}
 use Rattle.vetting.proofs.Below.{root_boxed}
 use Rattle.naming.specs.Holders.{marks_of}
-use Rattle.naming.proofs.CardNames.{blank_rises, not_empty, stands_grid, holders_few, holders_length, named_laid, named_left}
+use Rattle.naming.proofs.CardNames.{blank_rises, not_empty, holders_few, holders_length, named_laid, named_left}
 use Rattle.naming.proofs.names.put_best.Goals as goal
 use Rattle.naming.proofs.names.put_best.Goals.{After-offer_below}
 
@@ -42,7 +42,6 @@ offer_below-requires-clause-passable c =
     let ws = a.table.now in
     let t = c.requires.0.table in
     let some = not_empty ws t a.holder.number a.holder.place c.requires.0.station in (
-      stands_grid ws t a.holder.number a.holder.place c.requires.0.station,
       root_passable ws t.long t.words t.rules some _ _ c.root_of-root.ensures c.level_at-level.ensures,
       root_boxed ws t.long t.words t.rules some _ _ c.root_of-root.ensures c.level_at-level.ensures,
     )
@@ -55,9 +54,6 @@ slice_bounds-put_names-end c = holders_few _ c.names_in-n.ensures
 
 pub slice_bounds-put_names-end-then-n-list : goal.slice_bounds-put_names-end-then-n-list
 slice_bounds-put_names-end-then-n-list c = sym (holders_length _ c.names_in-n.ensures)
-
-pub put_names-requires : goal.put_names-requires
-put_names-requires c = omega (arith, holders_length _ c.names_in-n.ensures, c.if-n-list.true)
 
 pub returns-then-n-list : goal.returns-then-n-list
 returns-then-n-list c =

@@ -10,8 +10,7 @@ use Rattle.order.specs.Lists.{count as count_of, join}
 use Rattle.table.specs.Page.{blank_entry}
 use Rattle.table.specs.Slots.{entries_at}
 use Rattle.vetting.specs.Test.{other_as_near, below}
-use Rattle.filter.proofs.NodeTurns.{IsChild}
-use Rattle.vetting.proofs.Below.{SoFar, sofar_next, sofar_enough, sofar_all, box_none, below_zero, below_above, Box, child_at_lem}
+use Rattle.vetting.proofs.Below.{SoFar, sofar_next, sofar_enough, sofar_all, box_none, below_zero, below_above, child_read}
 use Rattle.vetting.proofs.test.Tested.+others_below.Invariants.{under}
 use Rattle.vetting.proofs.test.Tested.+others_below.Goals as goal
 use Rattle.vetting.proofs.test.Tested.+others_below.Goals.{then-is_as_near, else-is_as_near}
@@ -28,23 +27,13 @@ returns-then-most-found t c =
 pub least_square-requires : goal.least_square-requires
 least_square-requires t c =
     let a = c.args in
-    let ws = a.table.now in
-    let es = entries_at ws a.slot in
-    let P = other_as_near a.self.number a.self.place a.self.far in
-    let in_node : c.loop-i.i < length es = omega (arith, c.count_at-count.ensures) in
-    let child_here : IsChild ws (a.level - 1) c.entry_at-e.result × Box ws (a.level - 1) c.entry_at-e.result =
-    rw c.entry_at-e.ensures (child_at_lem ws a.slot a.level (omega arith) c.requires.passable.0 c.requires.passable.1 c.loop-i.i in_node) in
+    let child_here = child_read a.table.now a.slot a.level (omega arith) c.requires.passable c.loop-i.i (omega (arith, c.count_at-count.ensures)) c.entry_at-e.ensures in
     (child_here.0.0.grid, c.requires.place_value)
 
 pub others_below-found-requires : goal.others_below-found-requires
 others_below-found-requires t c =
     let a = c.args in
-    let ws = a.table.now in
-    let es = entries_at ws a.slot in
-    let P = other_as_near a.self.number a.self.place a.self.far in
-    let in_node : c.loop-i.i < length es = omega (arith, c.count_at-count.ensures) in
-    let child_here : IsChild ws (a.level - 1) c.entry_at-e.result × Box ws (a.level - 1) c.entry_at-e.result =
-    rw c.entry_at-e.ensures (child_at_lem ws a.slot a.level (omega arith) c.requires.passable.0 c.requires.passable.1 c.loop-i.i in_node) in
+    let child_here = child_read a.table.now a.slot a.level (omega arith) c.requires.passable c.loop-i.i (omega (arith, c.count_at-count.ensures)) c.entry_at-e.ensures in
     (omega (arith, c.decreases), (c.requires.place_value, (child_here.0.1, child_here.1.1)))
 
 pub loop-i-preserved : goal.loop-i-preserved
@@ -54,8 +43,7 @@ loop-i-preserved t c =
     let es = entries_at ws a.slot in
     let P = other_as_near a.self.number a.self.place a.self.far in
     let in_node : c.loop-i.i < length es = omega (arith, c.count_at-count.ensures) in
-    let child_here : IsChild ws (a.level - 1) c.entry_at-e.result × Box ws (a.level - 1) c.entry_at-e.result =
-    rw c.entry_at-e.ensures (child_at_lem ws a.slot a.level (omega arith) c.requires.passable.0 c.requires.passable.1 c.loop-i.i in_node) in
+    let child_here = child_read ws a.slot a.level (omega arith) c.requires.passable c.loop-i.i in_node c.entry_at-e.ensures in
     let next_here : (more : ℕ) → more ≡ min (a.most - c.loop-i.found) (count_of P (under ws a.level c.entry_at-e.result)) → SoFar P (under ws a.level) es a.most (c.loop-i.i + 1) (c.loop-i.found + more) =
     λ more h. sofar_next P (under ws a.level) es a.most c.loop-i.i c.loop-i.found more blank_entry in_node (omega arith) c.loop-i.invariant (rw c.entry_at-e.ensures at h) in
     elim c.if-is_as_near.branch [

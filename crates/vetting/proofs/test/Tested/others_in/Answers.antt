@@ -19,7 +19,7 @@ returns-then-most-found c =
     let a = c.args in
     let P = other_as_near a.self.number a.self.place a.self.far in
     let es = entries_at a.table.now a.slot in
-    sofar_enough P alone es a.most c.loop-i.i c.loop-i.found (omega (arith, c.if-most-found.true)) c.loop-i.invariant
+    sofar_enough P alone es a.most c.loop-i.i c.loop-i.found (omega arith) c.loop-i.invariant
     ∙ ap (λ c. min a.most (count_of P c)) (join_one es)
 
 pub loop-i-preserved : goal.loop-i-preserved
@@ -29,12 +29,12 @@ loop-i-preserved c =
     let es = entries_at a.table.now a.slot in
     let i = c.loop-i.i in
     let found = c.loop-i.found in
-    let inside : i < length es = omega (arith, c.loop-i-test.true, c.count_at-count.ensures) in
+    let inside : i < length es = omega (arith, c.count_at-count.ensures) in
     let tested : c.has_as_near.result ≡ P (get_or es i blank_entry) = rw (← c.entry_at-e.ensures) c.has_as_near.ensures in
     let next : (b : Bool) → c.has_as_near.result ≡ b → (more : ℕ) → more ≡ min (a.most - found) (one b + 0) → SoFar P alone es a.most (i + 1) (found + more) = λ b h more m.
-    sofar_next P alone es a.most i found more blank_entry inside (omega (arith, c.if-most-found.false)) c.loop-i.invariant (rw (← tested, h) m) in
+    sofar_next P alone es a.most i found more blank_entry inside (omega arith) c.loop-i.invariant (rw (← tested, h) m) in
     elim c.if-has_as_near.branch [
-      | then-has_as_near w ↦ omega (arith, next true w.if-has_as_near.true 1 (omega (arith, c.if-most-found.false)))
+      | then-has_as_near w ↦ omega (arith, next true w.if-has_as_near.true 1 (omega arith))
       | else-has_as_near w ↦ omega (arith, next false w.if-has_as_near.false 0 (omega arith))
     ]
 
@@ -43,5 +43,5 @@ returns c =
     let a = c.args in
     let P = other_as_near a.self.number a.self.place a.self.far in
     let es = entries_at a.table.now a.slot in
-    sofar_all P alone es a.most c.loop-i.i c.loop-i.found (omega (arith, c.loop-i-test.false, c.count_at-count.ensures)) c.loop-i.invariant
+    sofar_all P alone es a.most c.loop-i.i c.loop-i.found (omega (arith, c.count_at-count.ensures)) c.loop-i.invariant
     ∙ ap (λ c. min a.most (count_of P c)) (join_one es)
