@@ -1,6 +1,5 @@
 // The candidates are read back from the rows of the walk, and the numbers of those that pass the final test are kept.
 ghost use Rattle.std.specs.Prelude.{◌≡◌, false, ◌<◌, length};
-ghost use Rattle.grid.specs.Place.{PlaceOnGrid};
 ghost use Rattle.rules.specs.Rules.{Passing};
 ghost use Rattle.filter.specs.Query.{laid_over};
 ghost use Rattle.filter.specs.Rows.{rows_read, listed};
@@ -15,7 +14,7 @@ use grid::place::Place;
 // Whether a candidate passes, `near` of the candidates being as near to it as the query's place is, or nearer.
 // It is at most one of them: if they are more than k, k others are, and the tree need not be asked.
 fn is_kept(table: &Words, c: Tested, near: usize, k: usize) -> bool
-    requires { Passing table.now × PlaceOnGrid c.place × (k < near → passes_of table.now c.number c.place c.far k ≡ false) }
+    requires { Passing table.now × (k < near → passes_of table.now c.number c.place c.far k ≡ false) }
     ensures { result ≡ passes_of table.now c.number c.place c.far k }
 {
     near <= k && c.passes(table, k)

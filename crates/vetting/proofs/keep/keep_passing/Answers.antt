@@ -25,13 +25,16 @@ square_to-requires c =
     let st = kept_standing c.requires.grid c.requires.kept in
     (c.requires.grid, rw c.place_at-place.ensures (st.grid c.loop-i.i (omega arith)))
 
+pub invariant_of-c : goal.invariant_of-c
+invariant_of-c c =
+    let st = kept_standing c.requires.grid c.requires.kept in
+    record { on_grid = rw c.place_at-place.ensures (st.grid c.loop-i.i (omega arith)) }
+
 pub is_kept-requires : goal.is_kept-requires
-is_kept-requires c =
-    let st = kept_standing c.requires.grid c.requires.kept in (
-      c.requires.table,
-      rw c.place_at-place.ensures (st.grid c.loop-i.i (omega arith)),
-      crowded_at c.requires c.loop-i.i (omega arith) _ _ _ c.place_at-place.ensures c.square_to.ensures c.as_near-near.ensures,
-    )
+is_kept-requires c = (
+  c.requires.table,
+  crowded_at c.requires c.loop-i.i (omega arith) _ _ _ c.place_at-place.ensures c.square_to.ensures c.as_near-near.ensures,
+)
 
 pub loop-i-preserved : goal.loop-i-preserved
 loop-i-preserved c =
