@@ -45,13 +45,7 @@ pub fn answer(table: &Words, q: Site, k: usize, slate: &mut Slate<'_>, answers: 
 {
     let seen = find(table, q, k, &mut slate.rows);
     let place = Place::from(q);
-    let n = keep_passing(
-        table,
-        slate.rows.candidates(),
-        seen.candidates,
-        place,
-        k,
-        slate.kept,
-    );
+    let found = slate.rows.candidates();
+    let n = keep_passing(table, found, seen.candidates, place, k, slate.kept);
     put_answers(seen, slate.kept(n), answers)
 }
