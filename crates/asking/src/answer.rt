@@ -45,6 +45,13 @@ pub fn answer(table: &Words, q: Site, k: usize, slate: &mut Slate<'_>, answers: 
 {
     let seen = find(table, q, k, &mut slate.rows);
     let place = Place::from(q);
-    let n = keep_passing(table, &slate.rows, seen.candidates, place, k, slate.kept);
+    let n = keep_passing(
+        table,
+        slate.rows.candidates(),
+        seen.candidates,
+        place,
+        k,
+        slate.kept,
+    );
     put_answers(seen, slate.kept(n), answers)
 }

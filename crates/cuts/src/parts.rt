@@ -70,6 +70,7 @@ impl Mark {
     }
 }
 
+// Kept: bytes and a place in them as two, as an index has them; a struct of both would be made for each part, no plainer.
 // The place where the part that starts at a place ends.
 pub(crate) fn stop_at(bytes: &[u8], at: usize, mark: Mark) -> usize
     ensures { result ≡ stop_at mark bytes.now at }

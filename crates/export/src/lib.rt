@@ -42,6 +42,7 @@ fn told(given: Given, fault: &mut [i32]) -> u8
     number_given(given)
 }
 
+// Kept: below, loose numbers and lent rows, two parallel ones among them, as C has them (C interface).
 // The table check.
 #[unsafe(no_mangle)]
 pub extern "C" fn ullagreth_check(table: &[i32], fault: &mut [i32]) -> u8

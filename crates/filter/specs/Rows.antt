@@ -7,6 +7,7 @@ use Rattle.order.specs.Lists.{All}
 use Rattle.order.specs.Order.{up_from}
 use Rattle.table.specs.declared.node.Entry.{Entry}
 use Rattle.table.specs.Stations.{is_point}
+use Rattle.filter.specs.declared.rows.Candidates.{Candidates}
 use Rattle.filter.specs.declared.rows.Rows.{Rows as Lent}
 use Rattle.filter.specs.declared.seen.Seen.{Seen}
 use Rattle.filter.specs.Walk.{Found, spot_in}
@@ -24,6 +25,10 @@ rows ns xs ys bs = record { numbers = ns; xs = xs; ys = ys; bars = bs }
 -- what the code's rows hold
 abbrev pub rows_of : Lent → Rows
 rows_of r = rows r.numbers.now r.xs.now r.ys.now r.bars.now
+
+-- and what is read of them
+abbrev pub rows_read : Candidates → Rows
+rows_read c = rows c.numbers.now c.leads.xs.now c.leads.ys.now c.leads.bars.now
 
 -- the code's rows are still those that were lent
 pub record SameLent (before after : Lent) : Type 0 where

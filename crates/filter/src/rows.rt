@@ -1,10 +1,10 @@
-// The candidates so far, in four lent rows: how the tests read them, and how one more is noted.
+// The candidates so far, in four lent rows: how the tests and the answers read them, and how one more is noted.
 ghost use Rattle.std.specs.Prelude.{◌≡◌, true, ◌<◌, length, set};
 ghost use Rattle.grid.specs.Place.{PlaceOnGrid};
 ghost use Rattle.leads.specs.Leads.{from_q, bar_of};
 ghost use Rattle.table.specs.Stations.{is_point};
 ghost use Rattle.filter.specs.Walk.{spot_in};
-ghost use Rattle.filter.specs.Rows.{SameLent};
+ghost use Rattle.filter.specs.Rows.{rows_of, rows_read, SameLent};
 
 use crate::candidate::spot_in;
 use grid::place::Place;
@@ -20,6 +20,13 @@ pub struct Rows<'a> {
     pub bars: &'a mut [u64],
 }
 
+// The candidates as they are read, on shared loans: the numbers, and what the tests read.
+#[derive(Clone, Copy)]
+pub struct Candidates<'a> {
+    pub numbers: &'a [u32],
+    pub leads: Leads<'a>,
+}
+
 impl Rows<'_> {
     // As the tests of the walk read them.
     pub fn leads(&self) -> Leads<'_>
@@ -31,6 +38,16 @@ impl Rows<'_> {
             xs: self.xs,
             ys: self.ys,
             bars: self.bars,
+        }
+    }
+
+    // As the final test and the list of candidates read them.
+    pub fn candidates(&self) -> Candidates<'_>
+        ensures { rows_read result ≡ rows_of self.now }
+    {
+        Candidates {
+            numbers: self.numbers,
+            leads: self.leads(),
         }
     }
 

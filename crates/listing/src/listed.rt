@@ -31,6 +31,6 @@ pub fn answer_listed(
         kept: &mut [0; Table::MOST],
     };
     let reply = answer(table, q, k, &mut slate, answers);
-    hand_over(list, &slate.rows, q, reply.m);
+    hand_over(list, slate.rows.candidates(), q, reply.m);
     reply
 }

@@ -81,10 +81,10 @@ module _ (number : ℕ) (p : Place) (S : Entry → List Entry) (xs : List Entry)
   pub sofar_none : Rises row → SoFar 0 row
   sofar_none r = least_row (length row) row refl r ∙ ap (λ l. least (length row) (l ++ row)) (sym (marks_none number p))
 
-  pub sofar_rises : (i : ℕ) (best : List ℕ) → SoFar i best → Rises best
+  sofar_rises : (i : ℕ) (best : List ℕ) → SoFar i best → Rises best
   sofar_rises i best e = rw e (least_rises (length row) (first i ++ row))
 
-  pub sofar_long : (i : ℕ) (best : List ℕ) → SoFar i best → length best ≡ length row
+  sofar_long : (i : ℕ) (best : List ℕ) → SoFar i best → length best ≡ length row
   sofar_long i best e = ap length e ∙ least_length (length row) (first i ++ row) ∙ omega (arith, length-append (first i) row)
 
   -- one entry more

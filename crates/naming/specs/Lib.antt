@@ -1,2 +1,3 @@
 pub mod Holders
 pub mod Named
+pub mod Rising

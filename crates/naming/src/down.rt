@@ -1,6 +1,6 @@
 // Down the tree for a card: the entries of a node nearest first, up to the first box that cannot hold a better holder than those found.
 ghost use Rattle.std.specs.Prelude.{◌≡◌, true, [], ◌∷◌, ◌++◌, ◌<◌, length};
-ghost use Rattle.order.specs.Lists.{All, Rises};
+ghost use Rattle.order.specs.Lists.{All};
 ghost use Rattle.order.specs.Order.{least};
 ghost use Rattle.figures.specs.Figures.{SLOTS};
 ghost use Rattle.table.specs.Slots.{entries_at};
@@ -9,7 +9,7 @@ ghost use Rattle.filter.specs.Passable.{Passable};
 ghost use Rattle.vetting.specs.Test.{below as below_of, Boxed};
 ghost use Rattle.naming.specs.Holders.{marks_of};
 
-use crate::best::{is_beyond, mark_of, offer};
+use crate::best::{Best, mark_of};
 use crate::holder::Holder;
 use figures::Words;
 use filter::candidate::spot_in;
@@ -18,22 +18,24 @@ use table::node::Entry;
 use table::slot::{count_at, entry_at};
 
 // One point: the station itself is on no card of its own.
-fn offer_point(e: Entry, holder: Holder, best: &mut [u64])
-    requires { (is_point e ≡ true) × (0 < length best.old) × Rises best.old }
-    ensures { best.new ≡ least (length best.old) (marks_of holder.number holder.place (e ∷ []) ++ best.old) }
+fn offer_point(e: Entry, holder: Holder, best: &mut Best<'_>)
+    requires { is_point e ≡ true }
+    ensures best { best.new.marks.now ≡ least (length best.old.marks.now) (marks_of holder.number holder.place (e ∷ []) ++ best.old.marks.now) }
+    ensures lent { best.new.marks.ghost_name ≡ best.old.marks.ghost_name }
 {
     let other = e.reference;
     if other == holder.number {
         return;
     }
-    offer(best, mark_of(spot_in(e).square_to(holder.place), other));
+    best.offer(mark_of(spot_in(e).square_to(holder.place), other));
 }
 
 // The points of a leaf, in any order.
-fn offer_leaf(table: &Words, slot: usize, holder: Holder, best: &mut [u64])
+fn offer_leaf(table: &Words, slot: usize, holder: Holder, best: &mut Best<'_>)
     requires within { slot < SLOTS }
-    requires all { All (λ e. is_point e ≡ true) (entries_at table.now slot) × (0 < length best.old) × Rises best.old }
-    ensures { best.new ≡ least (length best.old) (marks_of holder.number holder.place (entries_at table.now slot) ++ best.old) }
+    requires all { All (λ e. is_point e ≡ true) (entries_at table.now slot) }
+    ensures best { best.new.marks.now ≡ least (length best.old.marks.now) (marks_of holder.number holder.place (entries_at table.now slot) ++ best.old.marks.now) }
+    ensures lent { best.new.marks.ghost_name ≡ best.old.marks.ghost_name }
 {
     for i in 0..count_at(table, slot) {
         let e = entry_at(table, slot, i);
@@ -42,10 +44,10 @@ fn offer_leaf(table: &Words, slot: usize, holder: Holder, best: &mut [u64])
 }
 
 // All points below a node.
-pub fn offer_below(table: &Words, slot: usize, level: usize, holder: Holder, best: &mut [u64])
-    requires passable { Passable level table.now slot × Boxed level table.now slot }
-    requires best { (0 < length best.old) × Rises best.old }
-    ensures { best.new ≡ least (length best.old) (marks_of holder.number holder.place (below_of level table.now slot) ++ best.old) }
+pub fn offer_below(table: &Words, slot: usize, level: usize, holder: Holder, best: &mut Best<'_>)
+    requires { Passable level table.now slot × Boxed level table.now slot }
+    ensures best { best.new.marks.now ≡ least (length best.old.marks.now) (marks_of holder.number holder.place (below_of level table.now slot) ++ best.old.marks.now) }
+    ensures lent { best.new.marks.ghost_name ≡ best.old.marks.ghost_name }
 {
     if level == 0 {
         offer_leaf(table, slot, holder, best);
@@ -55,7 +57,7 @@ pub fn offer_below(table: &Words, slot: usize, level: usize, holder: Holder, bes
     for at in &row[..count_at(table, slot)] {
         let e = entry_at(table, slot, *at);
         // The entries behind it lie no nearer.
-        if is_beyond(best, e.rect.least_square(holder.place)) {
+        if best.is_beyond(e.rect.least_square(holder.place)) {
             return;
         }
         let child = e.reference;

@@ -6,7 +6,7 @@ ghost use Rattle.filter.specs.Query.{laid_over};
 ghost use Rattle.naming.specs.Holders.{number_in};
 ghost use Rattle.naming.specs.Named.{Namable, Named};
 
-use crate::best::BASE;
+use crate::best::{BASE, Best};
 use crate::down::offer_below;
 use crate::holder::Holder;
 use figures::Words;
@@ -16,11 +16,11 @@ use table::slot::{level_at, root_of};
 pub const MOST: usize = 16;
 
 // How many places of the row have a holder.
-fn names_in(best: &[u64]) -> usize
-    ensures { result ≡ count_of (λ m. ltb m NONE) best.now }
+fn names_in(marks: &[u64]) -> usize
+    ensures { result ≡ count_of (λ m. ltb m NONE) marks.now }
 {
     let mut n = 0;
-    for mark in best {
+    for mark in marks {
         n += order::one(*mark < order::NONE);
     }
     n
@@ -38,16 +38,16 @@ fn put_names(marks: &[u64], list: &mut [u32])
 
 // The names of the best in the tree go to the list if it has room for them; gives back how many there are.
 // The row has a place for each name of the card, with no holder yet. What it has afterwards nobody reads.
-fn put_best(table: &Words, holder: Holder, best: &mut [u64], list: &mut [u32]) -> usize
-    requires { Namable table.now holder.number holder.place (length best.old) × (best.old ≡ replicate (length best.old) NONE) }
-    ensures { Named table.now holder.number (length best.old) list.old list.new result }
+fn put_best(table: &Words, holder: Holder, marks: &mut [u64], list: &mut [u32]) -> usize
+    requires { Namable table.now holder.number holder.place (length marks.old) × (marks.old ≡ replicate (length marks.old) NONE) }
+    ensures { Named table.now holder.number (length marks.old) list.old list.new result }
 {
     let root = root_of(table);
     let level = level_at(table, root);
-    offer_below(table, root, level, holder, best);
-    let n = names_in(best);
+    offer_below(table, root, level, holder, &mut Best { marks });
+    let n = names_in(marks);
     if n <= list.len() {
-        put_names(&best[..n], list);
+        put_names(&marks[..n], list);
     }
     n
 }
@@ -57,6 +57,6 @@ pub fn put_card(table: &Words, holder: Holder, k: usize, list: &mut [u32]) -> us
     requires { Namable table.now holder.number holder.place k }
     ensures { Named table.now holder.number k list.old list.new result }
 {
-    let mut best = [order::NONE; MOST];
-    put_best(table, holder, &mut best[..k], list)
+    let mut marks = [order::NONE; MOST];
+    put_best(table, holder, &mut marks[..k], list)
 }

@@ -15,6 +15,7 @@ use sheet::marks::LONGEST;
 use std::io;
 use std::io::{Read, Write};
 
+// Kept: two writers side by side: they may be of two types, and a struct of both would be made at once to be taken apart, no plainer.
 // Writes the job sheet and the reports of a list. The reports come first, so that a write that fails is told behind them.
 fn write_list<W: Write, E: Write>(
     file: &[u8],

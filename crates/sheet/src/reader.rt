@@ -38,6 +38,7 @@ impl<'a> Reader<'a> {
     }
 }
 
+// Kept: the two thin functions that document 01 wants over the covered ones ("The form each place takes").
 // The line that starts at a place of a sheet.
 pub fn line_here(sheet: &[u8], at: usize) -> &[u8]
     requires { at ≤ length sheet.now }

@@ -48,6 +48,7 @@ impl Slip<'_> {
         self.byte(TAB);
     }
 
+    // Kept: the digits by hand, no Display: `Laid` says that every byte behind them stays, which no writer of std says of a buffer that is lent in part (what may not change).
     // A number in decimal digits, from the last to the first. No number of 64 bits has more than 20.
     pub fn decimal(&mut self, n: u64)
         requires { self.old.at + 20 ≤ length self.old.out.now }

@@ -22,6 +22,7 @@ pub enum Refusal {
 
 pub type Given = Result<(), Refusal>;
 
+// Kept: three functions over an answer and no From: they are asked of `Ok` too, and README and bindings name number_given.
 // Document 01's number for an answer.
 pub fn number_given(g: Given) -> u8
     ensures { result ≡ number_given g }

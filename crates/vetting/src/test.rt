@@ -15,18 +15,19 @@ use grid::place::{Place, is_as_near};
 use table::node::Entry;
 use table::slot::{count_at, entry_at, level_at, points_of, root_of};
 
-// A point as it is tested: its number, its place, and the squared distance from there to the query's place.
+// A point as it is tested: its number, its place on the grid, and the squared distance from there to the query's place.
 #[derive(Clone, Copy)]
 pub struct Tested {
     pub number: usize,
     pub place: Place,
     pub far: u64,
+    pub ghost on_grid: { PlaceOnGrid place },
 }
 
 impl Tested {
     // Whether the entry is another point, and as near to this one as the query's place is, or nearer.
     fn has_as_near(self, e: Entry) -> bool
-        requires { (is_point e ≡ true) × PlaceOnGrid self.place }
+        requires { is_point e ≡ true }
         ensures { result ≡ other_as_near self.number self.place self.far e }
     {
         let away = spot_in(e).square_to(self.place);
@@ -40,7 +41,7 @@ impl Tested {
 
     // How many points of a leaf are others that are as near or nearer; it stops at `most`.
     fn others_in(self, table: &Words, slot: usize, most: usize) -> usize
-        requires slot_value { (slot < SLOTS) × PlaceOnGrid self.place }
+        requires slot_value { slot < SLOTS }
         requires all { All (λ e. is_point e ≡ true) (entries_at table.now slot) }
         ensures { result ≡ min most (count_of (other_as_near self.number self.place self.far) (entries_at table.now slot)) }
     {
@@ -60,8 +61,7 @@ impl Tested {
 
     // The same of all points below a node. A box whose least distance to the point is greater holds none of them, and is passed by.
     fn others_below(self, table: &Words, slot: usize, level: usize, most: usize) -> usize
-        requires place_value { PlaceOnGrid self.place }
-        requires passable { Passable level table.now slot × Boxed level table.now slot }
+        requires { Passable level table.now slot × Boxed level table.now slot }
         ensures { result ≡ min most (count_of (other_as_near self.number self.place self.far) (below_of level table.now slot)) }
     {
         if level == 0 {
@@ -83,7 +83,7 @@ impl Tested {
 
     // Whether fewer than k others are as near or nearer. The empty table has no root to start from.
     pub fn passes(self, table: &Words, k: usize) -> bool
-        requires { Passing table.now × PlaceOnGrid self.place }
+        requires { Passing table.now }
         ensures { result ≡ passes_of table.now self.number self.place self.far k }
     {
         if points_of(table) == 0 {

@@ -1,4 +1,4 @@
-// The border to signed words: outside this file no word is signed. (The leads of `axis` are signed differences.)
+// The border to signed words: outside this file no word is signed.
 ghost use Rattle.std.specs.Prelude.{◌≡◌, ◌<◌, ◌^◌, pos, length, get_or, set};
 ghost use Rattle.axis.specs.Axis.{step_on_grid};
 ghost use Rattle.words.specs.Word.{steps_of, word_of, nat_of, on_grid};

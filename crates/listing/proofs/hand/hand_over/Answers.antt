@@ -15,4 +15,4 @@ loop-i-preserved c =
     let l = c.loop-i in
     c.append.ensures
     ∙ ap (λ (r : Candidate). set l.list l.i r) c.candidate_at.ensures
-    ∙ hand_step _ a.rows.now.numbers.now a.rows.now.xs.now a.rows.now.ys.now l.i a.list.now l.list (omega arith) l.invariant
+    ∙ hand_step _ a.candidates.numbers.now a.candidates.leads.xs.now a.candidates.leads.ys.now l.i a.list.now l.list (omega arith) l.invariant

@@ -5,4 +5,4 @@ use Rattle.listing.specs.Records.{candidates_in}
 use Rattle.listing.proofs.hand.hand_over.Given as goal
 
 abbrev pub invariant-loop-i : goal.invariant-loop-i
-invariant-loop-i l = l.list ≡ laid_over (candidates_in l.q l.rows.numbers.now l.rows.xs.now l.rows.ys.now l.i) l.initial.list
+invariant-loop-i l = l.list ≡ laid_over (candidates_in l.q l.candidates.numbers.now l.candidates.leads.xs.now l.candidates.leads.ys.now l.i) l.initial.list

@@ -1,14 +1,14 @@
 -- `listing::listed::answer_listed` meets its contract: the rows that the query left are read back as records, which go to the front of the list. Assumes nothing.
 use Rattle.std.proofs.Common.{arith, rules}
 use Prim.Native.Nat.{ℕ}
-use mathlib.Core.Path.{◌≡◌}
+use mathlib.Core.Path.{◌≡◌, ap}
 use mathlib.Core.List.{List}
 use lib.ListN.{length}
 use Rattle.grid.specs.declared.site.Site.{Site}
 use Rattle.grid.proofs.Sites.{SiteOnGrid}
 use Rattle.table.specs.Words.{Words, points_of}
 use Rattle.rules.specs.Rules.{Passing}
-use Rattle.filter.specs.Rows.{rows}
+use Rattle.filter.specs.Rows.{Rows, rows}
 use Rattle.asking.specs.declared.answer.Reply.{Reply}
 use Rattle.asking.specs.Slate.{Slate, Wide}
 use Rattle.asking.specs.Asked.{Replied}
@@ -47,7 +47,8 @@ hand_over-requires c =
     let grid : SiteOnGrid a.q = record { x = c.requires.x; y = c.requires.y } in
     let answered = c.answer-reply.ensures.replied in
     let w = was_wide t answered (search rules) (search rules) (search rules) (search rules) (search rules) in
-    (readable t _ grid a.k w answered, omega (arith, listed_few t _ grid a.k w answered, c.requires.room))
+    let e = c.candidates.ensures in
+    (rw (ap (λ (r : Rows). r.numbers) e, ap (λ (r : Rows). r.xs) e, ap (λ (r : Rows). r.ys) e) (readable t _ grid a.k w answered), omega (arith, listed_few t _ grid a.k w answered, c.requires.room))
 
 pub returns : goal.returns
 returns c =
@@ -56,4 +57,6 @@ returns c =
     let grid : SiteOnGrid a.q = record { x = c.requires.x; y = c.requires.y } in
     let answered = c.answer-reply.ensures.replied in
     let w = was_wide t answered (search rules) (search rules) (search rules) (search rules) (search rules) in
-    lists t _ grid a.k w answered a.list.now c.hand_over.new.list c.hand_over.ensures
+    let e = c.candidates.ensures in
+    let given = rw (ap (λ (r : Rows). r.numbers) e, ap (λ (r : Rows). r.xs) e, ap (λ (r : Rows). r.ys) e) at c.hand_over.ensures in
+    lists t _ grid a.k w answered a.list.now c.hand_over.new.list given

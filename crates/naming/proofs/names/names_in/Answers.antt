@@ -8,8 +8,8 @@ use Rattle.naming.proofs.names.names_in.Goals as goal
 
 pub loop-mark-preserved : goal.loop-mark-preserved
 loop-mark-preserved c =
-    let best = c.args.best.now in
+    let marks = c.args.marks.now in
     let i = c.loop-mark.mark-index in (
-      omega (arith, c.one-n.ensures, one_most (ltb (get_or best i 0) NONE)),
-      omega (arith, c.one-n.ensures, count_more (λ m. ltb m NONE) best i 0 (omega arith)),
+      omega (arith, c.one-n.ensures, one_most (ltb (get_or marks i 0) NONE)),
+      omega (arith, c.one-n.ensures, count_more (λ m. ltb m NONE) marks i 0 (omega arith)),
     )

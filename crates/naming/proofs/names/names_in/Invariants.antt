@@ -8,4 +8,4 @@ use Rattle.order.specs.Order.{NONE}
 use Rattle.naming.proofs.names.names_in.Given as goal
 
 abbrev pub invariant-loop-mark : goal.invariant-loop-mark
-invariant-loop-mark l = (l.n ≤ l.mark-index) × (l.n ≡ count_of (λ m. ltb m NONE) (take l.mark-index l.best))
+invariant-loop-mark l = (l.n ≤ l.mark-index) × (l.n ≡ count_of (λ m. ltb m NONE) (take l.mark-index l.marks))

@@ -27,14 +27,14 @@ returns-then-most-found t c =
 pub least_square-requires : goal.least_square-requires
 least_square-requires t c =
     let a = c.args in
-    let child_here = child_read a.table.now a.slot a.level (omega arith) c.requires.passable c.loop-i.i (omega (arith, c.count_at-count.ensures)) c.entry_at-e.ensures in
-    (child_here.0.0.grid, c.requires.place_value)
+    let child_here = child_read a.table.now a.slot a.level (omega arith) c.requires c.loop-i.i (omega (arith, c.count_at-count.ensures)) c.entry_at-e.ensures in
+    (child_here.0.0.grid, a.self.on_grid)
 
 pub others_below-found-requires : goal.others_below-found-requires
 others_below-found-requires t c =
     let a = c.args in
-    let child_here = child_read a.table.now a.slot a.level (omega arith) c.requires.passable c.loop-i.i (omega (arith, c.count_at-count.ensures)) c.entry_at-e.ensures in
-    (omega (arith, c.decreases), (c.requires.place_value, (child_here.0.1, child_here.1.1)))
+    let child_here = child_read a.table.now a.slot a.level (omega arith) c.requires c.loop-i.i (omega (arith, c.count_at-count.ensures)) c.entry_at-e.ensures in
+    (omega (arith, c.decreases), (child_here.0.1, child_here.1.1))
 
 pub loop-i-preserved : goal.loop-i-preserved
 loop-i-preserved t c =
@@ -43,7 +43,7 @@ loop-i-preserved t c =
     let es = entries_at ws a.slot in
     let P = other_as_near a.self.number a.self.place a.self.far in
     let in_node : c.loop-i.i < length es = omega (arith, c.count_at-count.ensures) in
-    let child_here = child_read ws a.slot a.level (omega arith) c.requires.passable c.loop-i.i in_node c.entry_at-e.ensures in
+    let child_here = child_read ws a.slot a.level (omega arith) c.requires c.loop-i.i in_node c.entry_at-e.ensures in
     let next_here : (more : ℕ) → more ≡ min (a.most - c.loop-i.found) (count_of P (under ws a.level c.entry_at-e.result)) → SoFar P (under ws a.level) es a.most (c.loop-i.i + 1) (c.loop-i.found + more) =
     λ more h. sofar_next P (under ws a.level) es a.most c.loop-i.i c.loop-i.found more blank_entry in_node (omega arith) c.loop-i.invariant (rw c.entry_at-e.ensures at h) in
     elim c.if-is_as_near.branch [
