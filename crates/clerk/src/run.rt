@@ -55,6 +55,7 @@ fn run_on(
         number,
         filled: 0,
     };
+    // Kept: a while, since it jumps from line to line; a for is no plainer, as no range has those places.
     while run.at < sheet.len() {
         if out.len() < run.filled + need {
             return run;

@@ -34,6 +34,7 @@ fn answer_lines<W: Write>(
 {
     let mut at = 0;
     let mut number = 1;
+    // Kept: a while, since it jumps by as many lines as the buffer holds; a for is no plainer, as no range has those places.
     while at < sheet.len() {
         let run = run_lines(sheet, at, number, table, answers, out);
         write_all(output, &out[..run.filled])?;

@@ -17,6 +17,7 @@ pub fn read_all<R: Read>(reader: &mut R, buffer: &mut [u8]) -> io::Result<usize>
     ensures gave { GaveAll result (R.remaining reader.old) (R.remaining reader.new) buffer.new }
 {
     let mut done = 0;
+    // Kept: a while, since it jumps by as many bytes as a read gives; a for is no plainer, as no range has those places.
     while done < buffer.len() {
         let more = reader.read(&mut buffer[done..])?;
         if more == 0 {

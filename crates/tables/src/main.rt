@@ -81,6 +81,7 @@ fn main(rt: HostRuntime) -> io::Result<()> {
     let n = read_full(&mut rt.stdin(), &mut sheet);
     let text = &sheet[..n];
     let mut at = 0;
+    // Kept: a while, since it jumps from line to line; a for is no plainer, as no range has those places.
     while at < text.len() {
         say(&rt, given_for(line_at(text, at)))?;
         at = next_at(text, at);
