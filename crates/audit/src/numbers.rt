@@ -69,6 +69,7 @@ fn rule4_at(table: &Words, slot: usize, seen: &mut [bool; NUMBERS]) -> bool
     mark(seen, n)
 }
 
+// Kept: a loop of its own beside `first_broken`: it writes the map as it goes, so a promise over a closure would speak of each state of the map, no plainer.
 // The lowest slot where rule 4 is broken, in one pass; none if it holds at every one. A number that is met again is broken at the later place.
 pub fn rule4_first(table: &Words) -> Option<usize>
     ensures { Lowest (rule4 table.now) SLOTS result }

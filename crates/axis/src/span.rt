@@ -8,7 +8,7 @@ pub struct Span {
     pub high: u64,
 }
 
-// Kept: a function whose body is std's, as the definitions and what stands above have this word for it; no plainer without.
+// Kept: a public function with an edit of its own, `beyond_turned` (what may not change); its body is std's.
 // How far a lies beyond b; 0 if it does not.
 pub fn beyond(a: u64, b: u64) -> u64
     ensures { result ≡ a - b }

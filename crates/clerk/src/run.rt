@@ -14,7 +14,8 @@ use slip::Slip;
 use words::lent::are_words;
 
 // How far the sheet has been run: the place where the next line starts, its number, and how many bytes stand in the buffer.
-// Kept: how much of the lent buffer is filled goes back as a number, no Vec (no heap).
+// Kept: the place and the number go in as they come out, beside the lent buffer and how much of it is filled: README names `run_lines` with these parameters (what may not change). Room for one
+// more line speaks of the buffer with the answer list.
 #[derive(Clone, Copy)]
 pub struct Run {
     pub at: usize,

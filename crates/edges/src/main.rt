@@ -1,4 +1,4 @@
-// Kept: the body of the program once more, since this is a test of it (a test).
+// Kept: one line that stands in the program too, no plainer: a program can't call another's main.
 // A test of the program: its body once more, on a sheet of edge cases. `second edges` makes the sheet.
 #![tactic(auto)]
 

@@ -9,6 +9,7 @@ use crate::seen::Seen;
 use grid::place::Place;
 use table::node::Entry;
 
+// Kept: that an entry is a point is asked where it counts, and is no invariant of Entry: above the leaves an entry is none.
 // The place of a leaf's entry.
 pub fn spot_in(e: Entry) -> Place
     ensures { result ≡ spot_in e }

@@ -12,6 +12,7 @@ use leads::row::{Leads, bar, from_q};
 use table::node::Entry;
 
 // The number of each candidate, its x and y relative to the query's place, and its bar.
+// Kept: rows of numbers, as `Leads` has them (speed), with how many stand in them beside: `listed` of specs/Rows.antt is of the first m (what may not change).
 #[derive(Drop)]
 pub struct Rows<'a> {
     pub numbers: &'a mut [u32],

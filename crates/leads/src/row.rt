@@ -26,6 +26,8 @@ fn back(x: u64, q: u64) -> u64
 }
 
 // A query's candidates, relative to its place: the x and the y of each, and its bar.
+// Kept: three rows and no row of records: the two counts over them become vector code (speed, count.rt).
+// How many stand in them is asked beside: they are lent with room for all, and `Standing` of specs/Leads.antt counts the first m of them (what may not change).
 #[derive(Clone, Copy)]
 pub struct Leads<'a> {
     pub xs: &'a [u64],

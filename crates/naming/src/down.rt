@@ -43,6 +43,7 @@ fn offer_leaf(table: &Words, slot: usize, holder: Holder, best: &mut Best<'_>)
     }
 }
 
+// Kept: slot and level as two words, as in the walk (filter); each step down makes both anew, no plainer in a struct.
 // All points below a node.
 pub fn offer_below(table: &Words, slot: usize, level: usize, holder: Holder, best: &mut Best<'_>)
     requires { Passable level table.now slot × Boxed level table.now slot }

@@ -11,7 +11,7 @@ use slip::Slip;
 use table::given::Refusal;
 
 // How many bytes stand in the two buffers.
-// Kept: two numbers beside two lent buffers, no Vec (no heap).
+// Kept: two numbers beside two lent buffers: README names `put_list` with these (what may not change); within, they are slips.
 #[derive(Clone, Copy)]
 pub struct Filled {
     pub lines: usize,

@@ -28,6 +28,7 @@ fn digit_count(n: u64) -> usize
     }
 }
 
+// Kept: each method promises the bytes and that the loan is the same in two clauses, as a lent field wants it; one word for both would be taken apart in each proof, no plainer.
 impl Slip<'_> {
     // One byte.
     pub fn byte(&mut self, b: u8)

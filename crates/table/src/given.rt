@@ -7,6 +7,7 @@ pub enum Refusal {
     // The table is not as long as a table is.
     WrongLength,
     // The rule that is broken, and the lowest slot where it is: −1, the two header words, is below all slots.
+    // Kept: the numbers of documents 01 and 02, which C's callers get as they are (`fault`, C interface).
     NotWellFormed { rule: u8, slot: i32 },
     NoSuchNumber,
     OffGrid,

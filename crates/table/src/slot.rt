@@ -113,7 +113,7 @@ pub fn free_slot(table: &mut Words, slot: usize)
 }
 
 // The lowest free slot; SLOTS if none is free.
-// Kept: SLOTS for none, and no Option; every caller has a free slot, so an Option would add a branch that no call takes.
+// Kept: SLOTS for none, and no Option: so says `lowest_free` of specs/Slots.antt, which the definitions of enrolment cite (what may not change). A negative word reads as a number that no slot is (`nat_of`).
 pub fn lowest_free(table: &Words) -> usize
     ensures { result ≡ lowest_free table.now }
 {

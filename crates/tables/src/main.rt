@@ -66,6 +66,7 @@ fn read_full<R: io::Read>(reader: &mut R, buffer: &mut [u8]) -> usize
     ensures { result ≤ length buffer.new }
 {
     let mut done = 0;
+    // Kept: a while, since it jumps by as many bytes as a read gives; a for is no plainer, as no range has those places.
     while done < buffer.len() {
         let more = reader.read(&mut buffer[done..]).unwrap_or(0);
         if more == 0 {

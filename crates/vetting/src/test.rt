@@ -59,6 +59,7 @@ impl Tested {
         found
     }
 
+    // Kept: slot and level as two words, as in the walk (filter); each step down makes both anew, no plainer in a struct.
     // The same of all points below a node. A box whose least distance to the point is greater holds none of them, and is passed by.
     fn others_below(self, table: &Words, slot: usize, level: usize, most: usize) -> usize
         requires { Passable level table.now slot × Boxed level table.now slot }
