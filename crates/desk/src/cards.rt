@@ -6,7 +6,6 @@ ghost use Rattle.desk.specs.Carding.{Cards};
 use audit::check;
 use figures::Words;
 use naming::find::find;
-use naming::holder::Holder;
 use naming::names::put_card;
 use refusals::answered::{Refused, told};
 use refusals::carding::card_asked;
@@ -24,8 +23,7 @@ pub fn card_passing(table: &Words, number: i32, k: i32, list: &mut [u32]) -> Res
     // One search tells both whether the station is enrolled and where it stands.
     let n = natural(number);
     let place = find(table, n).ok_or(Refusal::NotEnrolled)?;
-    let holder = Holder { number: n, place };
-    let names = put_card(table, holder, natural(k), list);
+    let names = put_card(table, n, place, natural(k), list);
     told(names, names, list.len())
 }
 

@@ -10,6 +10,7 @@ use crate::best::{BASE, Best};
 use crate::down::offer_below;
 use crate::holder::Holder;
 use figures::Words;
+use grid::place::Place;
 use table::slot::{level_at, root_of};
 
 // The most names on a card.
@@ -52,11 +53,12 @@ fn put_best(table: &Words, holder: Holder, marks: &mut [u64], list: &mut [u32]) 
     n
 }
 
-// The card of a holder that is enrolled: its k nearest others.
-pub fn put_card(table: &Words, holder: Holder, k: usize, list: &mut [u32]) -> usize
-    requires { Namable table.now holder.number holder.place k }
-    ensures { Named table.now holder.number k list.old list.new result }
+// The card of the station with a number, which stands at a place: its k nearest others.
+pub fn put_card(table: &Words, number: usize, place: Place, k: usize, list: &mut [u32]) -> usize
+    requires { Namable table.now number place k }
+    ensures { Named table.now number k list.old list.new result }
 {
+    let holder = Holder { number, place };
     let mut marks = [order::NONE; MOST];
     put_best(table, holder, &mut marks[..k], list)
 }

@@ -10,11 +10,9 @@ use Rattle.words.proofs.Machine.{natural_passed}
 use Rattle.grid.specs.declared.place.Place.{Place}
 use Rattle.table.specs.declared.given.Refusal.TheVariants.{NotEnrolled, ShortList}
 use Rattle.table.specs.Given.{Given}
-use Rattle.rules.specs.Rules.{Passing}
 use Rattle.limits.proofs.CallTests.{two_passed}
 use Rattle.limits.proofs.Refused.{not_done}
 use Rattle.naming.specs.Named.{Named}
-use Rattle.naming.proofs.CardNames.{stands_grid}
 use Rattle.refusals.specs.declared.answered.Refused.{Refused}
 use Rattle.refusals.specs.Refusals.{is_enrolled}
 use Rattle.refusals.specs.Carding.{card_asked}
@@ -35,13 +33,6 @@ returns-in_err-card_asked c =
     rw (refused_is _ c.from_residual.result c.from_residual.ensures.1)
     (card_refused_is ws a.number a.k old
     (card_early ws a.number a.k (length old) c.requires.0 c.requires.1 asked (not_done _)) (not_done _) (asked_not_short a.number a.k asked))
-
--- a station stands on the grid
-pub invariant_of-holder : goal.invariant_of-holder
-invariant_of-holder c =
-    let ws = c.args.table.now in
-    let table : Passing ws = record { long = c.requires.0; words = c.are_words.ensures; rules = c.requires.1 } in
-    record { on_grid = stands_grid ws table c.natural-n.result c.in_ok-place.place (sym c.find.ensures ∙ c.in_ok-place.ensures.ok_part) }
 
 pub returns-in_err-place : goal.returns-in_err-place
 returns-in_err-place c =
