@@ -132,6 +132,7 @@ pub extern "C" fn ullagreth_sites(
     told(sites::count_checked(table, xs, ys, k, counts), fault)
 }
 
+// Kept: beside told_query, which lays three counts where this lays one; a function over both would be handed what it lays, and by these two alone, no plainer.
 // What a card hands back: how many names it has goes to the lent row.
 fn told_card(names: Result<usize, Refused>, row: &mut [u64], fault: &mut [i32]) -> u8
     ensures given { result ≡ number_given (carded names).given }
