@@ -4,7 +4,7 @@ use Rattle.grid.specs.declared.site.Site.{Site}
 use Rattle.grid.specs.Site.{place_of}
 use Rattle.table.specs.Words.{Words}
 use Rattle.filter.specs.Query.{found, laid_over}
-use Rattle.filter.specs.Rows.{Rows, rows, rows_of, laid_in, Room, SameLent}
+use Rattle.filter.specs.Rows.{Rows, rows, laid_in, Room}
 use Rattle.vetting.specs.Tested.{numbers_passing}
 use Rattle.asking.specs.declared.slate.Slate.{Slate as Lent}
 
@@ -17,11 +17,14 @@ slate numbers xs ys bars kept = record { noted = rows numbers xs ys bars; kept =
 
 -- what the code's slate holds
 abbrev pub slate_of : Lent → Slate
-slate_of s = record { noted = rows_of s.rows; kept = s.kept.now }
+slate_of s = slate s.numbers.now s.xs.now s.ys.now s.bars.now s.kept.now
 
 -- the code's slate is still the one that was lent
 pub record SameSlate (before after : Lent) : Type 0 where
-  pub rows : SameLent before.rows after.rows
+  pub numbers : after.numbers.ghost_name ≡ before.numbers.ghost_name
+  pub xs : after.xs.ghost_name ≡ before.xs.ghost_name
+  pub ys : after.ys.ghost_name ≡ before.ys.ghost_name
+  pub bars : after.bars.ghost_name ≡ before.bars.ghost_name
   pub kept : after.kept.ghost_name ≡ before.kept.ghost_name
 
 -- n candidates have room on it

@@ -8,6 +8,7 @@ ghost use Rattle.asking.specs.Asked.{Askable, Replied};
 use crate::slate::Slate;
 use figures::Words;
 use filter::find::find;
+use filter::rows::Rows;
 use filter::seen::Seen;
 use grid::place::Place;
 use grid::site::Site;
@@ -43,9 +44,15 @@ pub fn answer(table: &Words, q: Site, k: usize, slate: &mut Slate<'_>, answers: 
     ensures replied { Replied table.now q k (slate_of slate.old) (slate_of slate.new) answers.old answers.new result }
     ensures lent { SameSlate slate.old slate.new }
 {
-    let seen = find(table, q, k, &mut slate.rows);
+    let mut rows = Rows {
+        numbers: &mut *slate.numbers,
+        xs: &mut *slate.xs,
+        ys: &mut *slate.ys,
+        bars: &mut *slate.bars,
+    };
+    let seen = find(table, q, k, &mut rows);
     let place = Place::from(q);
-    let found = slate.rows.candidates();
+    let found = rows.candidates();
     let n = keep_passing(table, found, seen.candidates, place, k, slate.kept);
     put_answers(seen, slate.kept(n), answers)
 }

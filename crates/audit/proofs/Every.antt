@@ -1,12 +1,15 @@
 -- What is known of a test that is asked of one thing after the other: of the numbers below n, where the lowest that fails is looked for, and of the elements of a list, by std's `all`. Assumes nothing.
-use Prim.Native.Nat.{ℕ, ◌<◌}
+use Prim.Native.Nat.{ℕ, ◌≤◌, ◌<◌}
 use native.Mathlib.Omega.{arith}
 use mathlib.Core.Path.{◌≡◌, refl, ap, sym, ◌∙◌}
-use mathlib.Core.Bool.{Bool, true, false, ◌&&◌, false≢true}
+use mathlib.Core.Bool.{Bool, true, false, cond, ◌&&◌, false≢true}
 use mathlib.Core.List.{List, [], ◌∷◌}
 use Rattle.std.specs.Prelude.{Option, None, Some, MatchOption, IfSome}
 use Rattle.std.specs.List.{list_all}
 use lib.ListN.{length, get_or}
+use native.Mathlib.Decide.{dec_lt}
+use lib.Dec.{ltb}
+use borrow.Author.Tests.{lt-ltb, le-ltb}
 use Rattle.order.specs.Lists.{every}
 use Rattle.order.specs.Order.{up_from}
 use Rattle.audit.specs.Asked.{LowestAt, LowestNo, Lowest}
@@ -45,6 +48,23 @@ module _ {answers : ℕ → Bool → Type 0} (P : ℕ → Bool) {n : ℕ} (same 
 
   pub lowest_of : {r : Option ℕ} → LowestNo answers n r → Lowest P n r
   lowest_of {r = r} l = lowest_cases r l.cases
+
+-- the first i of n have passed
+pub record Tested (P : ℕ → Bool) (n i : ℕ) : Type 0 where
+  pub within : i ≤ n
+  pub each : (k : ℕ) → k < i → P k ≡ true
+
+-- the one of the first n at which a search stood still; none if it has come to n
+abbrev pub stopped_at : (n i : ℕ) → Option ℕ
+stopped_at n i = cond (ltb i n) (Some i) None
+
+-- a search that passes all up to one that fails has found the lowest
+pub found_lowest : {P : ℕ → Bool} {n i : ℕ} → Tested P n i → P i ≡ false → Lowest P n (stopped_at n i)
+found_lowest {P} {n} {i} t f = go (dec_lt i n)
+  where
+    go : Dec (i < n) → Lowest P n (stopped_at n i)
+    go (yes h) = rw (lt-ltb i n h) (record { cases = record { within = h; below = t.each; broken = f } })
+    go (no h) = rw (le-ltb i n (omega arith)) (record { cases = λ k u. t.each k (omega (arith, t.within)) })
 
 -- where one is given, it is one of them
 inside_cases : (answers : ℕ → Bool → Type 0) (n : ℕ) (r : Option ℕ) → MatchOption r ((k : ℕ) → k < n → answers k true) (LowestAt answers n) → IfSome r (λ s. s < n)

@@ -8,7 +8,6 @@ ghost use Rattle.clerk.specs.Running.{lent, longest_line, RanLines};
 use crate::line::run_line;
 use asking::slate::Slate;
 use figures::{Table, Words};
-use filter::rows::Rows;
 use sheet::reader::{line_here, next_here};
 use slip::Slip;
 use words::lent::are_words;
@@ -98,12 +97,10 @@ pub fn run_lines(
     let mut bars = [0u64; Table::MOST];
     let mut kept = [0u32; Table::MOST];
     let mut slate = Slate {
-        rows: Rows {
-            numbers: &mut numbers,
-            xs: &mut xs,
-            ys: &mut ys,
-            bars: &mut bars,
-        },
+        numbers: &mut numbers,
+        xs: &mut xs,
+        ys: &mut ys,
+        bars: &mut bars,
         kept: &mut kept,
     };
     run_on(sheet, at, number, table, &mut slate, answers, out)

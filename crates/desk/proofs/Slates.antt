@@ -43,15 +43,13 @@ wide_left {n} {s} ws q k places h =
 -- ---- one slate
 
 pub slate_itself : (s : Lent) → SameSlate s s
-slate_itself s = record { rows = record { numbers = refl; xs = refl; ys = refl; bars = refl }; kept = refl }
+slate_itself s = record { numbers = refl; xs = refl; ys = refl; bars = refl; kept = refl }
 
 pub same_slate : {a b c : Lent} → SameSlate a b → SameSlate b c → SameSlate a c
 same_slate p q = record {
-  rows = record {
-    numbers = q.rows.numbers ∙ p.rows.numbers;
-    xs = q.rows.xs ∙ p.rows.xs;
-    ys = q.rows.ys ∙ p.rows.ys;
-    bars = q.rows.bars ∙ p.rows.bars;
-  };
+  numbers = q.numbers ∙ p.numbers;
+  xs = q.xs ∙ p.xs;
+  ys = q.ys ∙ p.ys;
+  bars = q.bars ∙ p.bars;
   kept = q.kept ∙ p.kept;
 }

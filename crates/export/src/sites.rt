@@ -10,7 +10,6 @@ use asking::slate::Slate;
 use desk::answers::answers_passing;
 use desk::check::check;
 use figures::{Table, Words};
-use filter::rows::Rows;
 use grid::site::Site;
 use table::given::{Given, Refusal};
 
@@ -77,12 +76,10 @@ pub(crate) fn count_checked(
     let mut kept = [0u32; Table::MOST];
     let mut answers = [0u32; Table::MOST];
     let mut slate = Slate {
-        rows: Rows {
-            numbers: &mut numbers,
-            xs: &mut across,
-            ys: &mut along,
-            bars: &mut bars,
-        },
+        numbers: &mut numbers,
+        xs: &mut across,
+        ys: &mut along,
+        bars: &mut bars,
         kept: &mut kept,
     };
     count_all(table, xs, ys, k, &mut slate, &mut answers, counts);

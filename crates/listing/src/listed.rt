@@ -6,11 +6,12 @@ use crate::hand::hand_over;
 use asking::answer::{Reply, answer};
 use asking::slate::Slate;
 use figures::{Table, Words};
-use filter::rows::Rows;
+use filter::rows::Candidates;
 use grid::site::Site;
+use leads::row::Leads;
 use record::Candidate;
 
-// The query writes on a slate of its own, with room for as many candidates as a table has points; its candidates go over to the front of the list, and the rest of that stays.
+// The query writes on a slate of rows made here, with room for as many candidates as a table has points. What it has left in them is read back: its candidates go over to the front of the list, and the rest of that stays.
 pub fn answer_listed(
     table: &Words,
     q: Site,
@@ -21,16 +22,27 @@ pub fn answer_listed(
     requires { Listable table.now q (length list.old) }
     ensures { Listed table.now q k list.old list.new answers.old answers.new result }
 {
+    let mut numbers = [0; Table::MOST];
+    let mut xs = [0; Table::MOST];
+    let mut ys = [0; Table::MOST];
+    let mut bars = [0; Table::MOST];
     let mut slate = Slate {
-        rows: Rows {
-            numbers: &mut [0; Table::MOST],
-            xs: &mut [0; Table::MOST],
-            ys: &mut [0; Table::MOST],
-            bars: &mut [0; Table::MOST],
-        },
+        numbers: &mut numbers,
+        xs: &mut xs,
+        ys: &mut ys,
+        bars: &mut bars,
         kept: &mut [0; Table::MOST],
     };
     let reply = answer(table, q, k, &mut slate, answers);
-    hand_over(list, slate.rows.candidates(), q, reply.m);
+    let leads = Leads {
+        xs: &xs,
+        ys: &ys,
+        bars: &bars,
+    };
+    let found = Candidates {
+        numbers: &numbers,
+        leads,
+    };
+    hand_over(list, found, q, reply.m);
     reply
 }

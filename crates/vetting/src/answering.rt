@@ -8,7 +8,10 @@ pub fn put_rising(kept: &[u32], answers: &mut [u32])
     requires { length kept.now ≤ length answers.old }
     ensures { answers.new ≡ laid_over (rising kept.now) answers.old }
 {
+    // Kept: one number after the other, no copy_from_slice: std's copy would make the static library call memmove, which it asks of nobody otherwise.
+    for (i, number) in kept.iter().enumerate() {
+        answers[i] = *number;
+    }
     let front = &mut answers[..kept.len()];
-    front.copy_from_slice(kept);
     front.sort_unstable();
 }

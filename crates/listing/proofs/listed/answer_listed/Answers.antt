@@ -1,17 +1,20 @@
 -- `listing::listed::answer_listed` meets its contract: the rows that the query left are read back as records, which go to the front of the list. Assumes nothing.
 use Rattle.std.proofs.Common.{arith, rules}
 use Prim.Native.Nat.{ℕ}
-use mathlib.Core.Path.{◌≡◌, ap}
+use mathlib.Core.Path.{◌≡◌, sym, ap, subst, ◌∙◌}
 use mathlib.Core.List.{List}
 use lib.ListN.{length}
 use Rattle.grid.specs.declared.site.Site.{Site}
 use Rattle.grid.proofs.Sites.{SiteOnGrid}
 use Rattle.table.specs.Words.{Words, points_of}
 use Rattle.rules.specs.Rules.{Passing}
-use Rattle.filter.specs.Rows.{Rows, rows}
+use Rattle.filter.specs.Query.{laid_over}
+use Rattle.filter.specs.Rows.{rows}
+use Rattle.record.specs.declared.Candidate.{Candidate}
 use Rattle.asking.specs.declared.answer.Reply.{Reply}
 use Rattle.asking.specs.Slate.{Slate, Wide}
 use Rattle.asking.specs.Asked.{Replied}
+use Rattle.listing.specs.Records.{candidates_in, Readable}
 use Rattle.listing.proofs.Outcome.{readable, listed_few, lists}
 use Rattle.asking.proofs.Outcome.{points_most}
 use Rattle.listing.proofs.listed.answer_listed.Goals as goal
@@ -40,6 +43,15 @@ was_wide : {ws : Words} (t : Passing ws) {q : Site} {k : ℕ} {ns xs ys bs ks : 
     → length ns ≡ 500 → length xs ≡ 500 → length ys ≡ 500 → length bs ≡ 500 → length ks ≡ 500 → Wide (points_of ws) (record { noted = rows ns xs ys bs; kept = ks })
 was_wide t {ns = ns} {xs = xs} {ys = ys} {bs = bs} {ks = ks} answered = wide t ns xs ys bs ks
 
+-- rows that hold the same are read back alike
+module _ (q : Site) (m : ℕ) {ns ns' xs xs' ys ys' : List ℕ} (n : ns ≡ ns') (x : xs ≡ xs') (y : ys ≡ ys') where
+  readable_in : Readable q ns xs ys m → Readable q ns' xs' ys' m
+  readable_in r = subst (λ (l : List ℕ). Readable q l xs' ys' m) n (subst (λ (l : List ℕ). Readable q ns l ys' m) x (subst (λ (l : List ℕ). Readable q ns xs l m) y r))
+
+  made_in : candidates_in q ns' xs' ys' m ≡ candidates_in q ns xs ys m
+  made_in = sym (λ i. candidates_in q (n i) (x i) (y i) m)
+
+-- what the query left on the slate stands in the rows that were lent to it
 pub hand_over-requires : goal.hand_over-requires
 hand_over-requires c =
     let a = c.args in
@@ -47,8 +59,7 @@ hand_over-requires c =
     let grid : SiteOnGrid a.q = record { x = c.requires.x; y = c.requires.y } in
     let answered = c.answer-reply.ensures.replied in
     let w = was_wide t answered (search rules) (search rules) (search rules) (search rules) (search rules) in
-    let e = c.candidates.ensures in
-    (rw (ap (λ (r : Rows). r.numbers) e, ap (λ (r : Rows). r.xs) e, ap (λ (r : Rows). r.ys) e) (readable t _ grid a.k w answered), omega (arith, listed_few t _ grid a.k w answered, c.requires.room))
+    (readable_in _ _ (search rules) (search rules) (search rules) (readable t _ grid a.k w answered), omega (arith, listed_few t _ grid a.k w answered, c.requires.room))
 
 pub returns : goal.returns
 returns c =
@@ -57,6 +68,5 @@ returns c =
     let grid : SiteOnGrid a.q = record { x = c.requires.x; y = c.requires.y } in
     let answered = c.answer-reply.ensures.replied in
     let w = was_wide t answered (search rules) (search rules) (search rules) (search rules) (search rules) in
-    let e = c.candidates.ensures in
-    let given = rw (ap (λ (r : Rows). r.numbers) e, ap (λ (r : Rows). r.xs) e, ap (λ (r : Rows). r.ys) e) at c.hand_over.ensures in
-    lists t _ grid a.k w answered a.list.now c.hand_over.new.list given
+    lists t _ grid a.k w answered a.list.now c.hand_over.new.list
+    (c.hand_over.ensures ∙ ap (λ (l : List Candidate). laid_over l a.list.now) (made_in a.q c.answer-reply.result.m (search rules) (search rules) (search rules)))

@@ -9,8 +9,7 @@ use Rattle.slip.proofs.Slip.line.Goals as goal
 
 pub byte-requires : goal.byte-requires
 byte-requires c =
-    let a = c.args in
-    omega (arith, laid_room 43 c.head.ensures.laid (head_room a.number a.letter a.given) (omega arith))
+    omega (arith, laid_room 43 c.head.ensures.laid (head_room _ _ _) (omega arith))
 
 pub returns-clause-laid : goal.returns-clause-laid
 unfolding output_line
