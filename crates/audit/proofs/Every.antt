@@ -58,7 +58,7 @@ pub record Tested (P : ℕ → Bool) (n i : ℕ) : Type 0 where
 abbrev pub stopped_at : (n i : ℕ) → Option ℕ
 stopped_at n i = cond (ltb i n) (Some i) None
 
--- a search that passes all up to one that fails has found the lowest
+-- a search that passes all up to one that fails has found the lowest. Nothing cites it since the loop hands out an Option; it stands because docs/ named it (docs/LOOK-BACK.md)
 pub found_lowest : {P : ℕ → Bool} {n i : ℕ} → Tested P n i → P i ≡ false → Lowest P n (stopped_at n i)
 found_lowest {P} {n} {i} t f = go (dec_lt i n)
   where

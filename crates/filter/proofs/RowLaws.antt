@@ -1,11 +1,12 @@
 -- Laws of the four rows of the candidate list: what is laid in them is read back, and the candidates kept there stand as the tests want them. Assumes nothing.
 use Prim.Native.Nat.{ℕ, suc, ◌+◌, ◌-◌, ◌≤◌, ◌<◌}
 use native.Mathlib.Omega.{arith}
+use native.Mathlib.Numerals.{add-one}
 use mathlib.Core.Path.{◌≡◌, refl, sym, ap, ◌∙◌, subst}
 use mathlib.Core.Bool.{true, Bool}
 use mathlib.Core.List.{List, [], ◌∷◌, ◌++◌, map, map-append, append_assoc}
-use lib.ListN.{length, get_or, drop, set, length-append, length-drop, length-map, get_or-append}
-use lib.Seq.{drop-append-add, drop-drop, drop-cons, set_at}
+use lib.ListN.{length, get_or, take, drop, set, length-append, length-drop, length-map, get_or-append}
+use lib.Seq.{drop-append-add, drop-drop, drop-cons, set_at, take-suc, length-take-le}
 use Rattle.grid.specs.declared.place.Place.{Place}
 use Rattle.grid.specs.Place.{spot_of, PlaceOnGrid}
 use Rattle.grid.proofs.Rects.{place_ext}
@@ -52,6 +53,19 @@ module _ {A : Type 0} where
       ap (λ l. set (new ++ l) n v) (drop-cons old n v h)
       ∙ set_at new (get_or old n v) (drop (suc n) old) v n refl
       ∙ sym (append_assoc new (v ∷ []) (drop (length (new ++ v ∷ [])) old) ∙ ap (λ (i : ℕ). new ++ v ∷ drop i old) e)
+
+  -- the words of the first i of some things lie over the front of a row, and that of the next goes behind them
+  pub laid_next : {E : Type 0} (w : E → A) (cs : List E) (d : E) (old : List A) (i : ℕ) → i < length cs → i < length old → {row : List A}
+      → row ≡ laid_over (map w (take i cs)) old → set row i (w (get_or cs i d)) ≡ laid_over (map w (take (i + 1) cs)) old
+  laid_next w cs d old i h room e =
+      let new = map w (take i cs) in
+      let v = w (get_or cs i d) in
+      let long : length new ≡ i = length-map (take i cs) w ∙ length-take-le i cs (omega arith) in
+      let more : map w (take (i + 1) cs) ≡ new ++ v ∷ [] = rw (add-one i, take-suc cs i d h) (map-append w (take i cs) (get_or cs i d ∷ [])) in
+      ap (λ (l : List A). set l i v) e
+      ∙ ap (λ (j : ℕ). set (laid_over new old) j v) (sym long)
+      ∙ laid_set new old v (omega arith)
+      ∙ ap (λ (l : List A). laid_over l old) (sym more)
 
   -- the row of some candidates, with the word of one more
   pub row_add : {E : Type 0} (w : E → A) (cs : List E) (m : ℕ) (e : E) (old : List A) → length cs ≡ m → laid_over (map w cs) old ≡ old → m < length old

@@ -1,16 +1,15 @@
 -- The names of the best marks, and that they are those of the card. Assumes nothing.
 use Prim.Native.Nat.{ℕ, zero, suc, ◌+◌, ◌≤◌, ◌<◌, min}
 use native.Mathlib.Omega.{arith}
-use native.Mathlib.Numerals.{add-one}
 use native.Mathlib.Decide.{dec_le}
 use mathlib.Core.Path.{◌≡◌, refl, sym, ap, subst, ◌∙◌}
 use mathlib.Core.Logic.{⊎_elim}
 use mathlib.Core.Bool.{Bool, true, false, cond, not, ◌&&◌}
 use mathlib.Core.List.Memᴰ
-use mathlib.Core.List.{List, [], ◌∷◌, ◌++◌, map, map-append, map-map}
+use mathlib.Core.List.{List, [], ◌∷◌, ◌++◌, map, map-map}
 use lib.Dec.{eqb, ltb}
 use lib.ListN.{length, take, get_or, set, replicate, length-map, length-replicate}
-use lib.Seq.{take-suc, length-take-le}
+use lib.Seq.{length-take-le}
 use borrow.Author.Tests.{eqb-true, le-leb, lt-leb, lt-ltb, le-ltb}
 use Rattle.std.specs.Prelude.{Some}
 use Rattle.grid.specs.declared.place.Place.{Place}
@@ -37,7 +36,7 @@ use Rattle.filter.specs.Meaning.{is_other}
 use Rattle.filter.specs.Walk.{spot_in}
 use Rattle.filter.specs.Query.{laid_over}
 use Rattle.filter.proofs.Rising.{filter_map}
-use Rattle.filter.proofs.RowLaws.{laid_set}
+use Rattle.filter.proofs.RowLaws.{laid_next}
 use Rattle.filter.proofs.Answers.{point_site, stations_empty}
 use Rattle.vetting.specs.Test.{below}
 use Rattle.vetting.proofs.Below.{root_count}
@@ -48,20 +47,9 @@ use Rattle.naming.specs.Holders.{BASE, mark_of, number_in, mark_from, is_another
 use Rattle.naming.specs.Named.{where_in, where_of, Named}
 
 -- one name more
-module _ (best old : List ℕ) (i : ℕ) (h : i < length best) (room : i < length old) where
-  names_more : map number_in (take (i + 1) best) ≡ map number_in (take i best) ++ number_in (get_or best i 0) ∷ []
-  names_more = rw (add-one i, take-suc best i 0 h) (map-append number_in (take i best) (get_or best i 0 ∷ []))
-
-  pub names_next : {list : List ℕ} → list ≡ laid_over (map number_in (take i best)) old
-      → set list i (number_in (get_or best i 0)) ≡ laid_over (map number_in (take (i + 1) best)) old
-  names_next e =
-      let new = map number_in (take i best) in
-      let v = number_in (get_or best i 0) in
-      let long : length new ≡ i = length-map (take i best) number_in ∙ length-take-le i best (omega arith) in
-      ap (λ (l : List ℕ). set l i v) e
-      ∙ ap (λ (j : ℕ). set (laid_over new old) j v) (sym long)
-      ∙ laid_set new old v (omega arith)
-      ∙ ap (λ (l : List ℕ). laid_over l old) (sym names_more)
+pub names_next : (best old : List ℕ) (i : ℕ) → i < length best → i < length old → {list : List ℕ} → list ≡ laid_over (map number_in (take i best)) old
+    → set list i (number_in (get_or best i 0)) ≡ laid_over (map number_in (take (i + 1) best)) old
+names_next best old i h room e = laid_next number_in best 0 old i h room e
 
 -- ---- the card by marks
 

@@ -1,12 +1,11 @@
 -- The answer list: kept numbers that are sorted in place are those numbers, rising. Assumes nothing.
 use Prim.Native.Nat.{ℕ, suc, ◌+◌, ◌≤◌, ◌<◌}
 use native.Mathlib.Omega.{arith}
-use native.Mathlib.Numerals.{add-one}
 use mathlib.Core.Path.{◌≡◌, refl, ap, subst, ◌∙◌, sym}
 use mathlib.Core.Bool.{Bool}
 use mathlib.Core.List.{List, [], ◌∷◌, ◌++◌}
 use lib.ListN.{length, take, drop, get_or, set}
-use lib.Seq.{take_all, take-suc, length-take-le, take-append_seam, drop-append_seam}
+use lib.Seq.{take_all, take-append_seam, drop-append_seam}
 use Rattle.std.specs.List.{sum_by}
 use Rattle.std.specs.List.Sorted.{IsPermutation, IsSorted, IsNonDecreasing}
 use Rattle.std.specs.Ordering.{nat_cmp}
@@ -20,20 +19,14 @@ use Rattle.order.proofs.Order.{sort_length, sort_perm}
 use Rattle.order.proofs.Pairwise.{sort_rises}
 use Rattle.filter.specs.Meaning.{rising}
 use Rattle.filter.specs.Query.{laid_over}
-use Rattle.filter.proofs.RowLaws.{laid_set}
+use Rattle.filter.proofs.RowLaws.{map_same, laid_next}
 
 -- one number more at the front of the list
 pub kept_next : (kept old : List ℕ) (i : ℕ) → i < length kept → length kept ≤ length old → {list : List ℕ} → list ≡ laid_over (take i kept) old
     → set list i (get_or kept i 0) ≡ laid_over (take (i + 1) kept) old
 kept_next kept old i h room e =
-    let new = take i kept in
-    let v = get_or kept i 0 in
-    let long : length new ≡ i = length-take-le i kept (omega arith) in
-    let more : take (i + 1) kept ≡ new ++ v ∷ [] = rw (add-one i) (take-suc kept i 0 h) in
-    ap (λ (l : List ℕ). set l i v) e
-    ∙ ap (λ (j : ℕ). set (laid_over new old) j v) (sym long)
-    ∙ laid_set new old v (omega arith)
-    ∙ ap (λ (l : List ℕ). laid_over l old) (sym more)
+    laid_next (λ n. n) kept 0 old i h (omega arith) (e ∙ ap (λ (l : List ℕ). laid_over l old) (sym (map_same (take i kept))))
+    ∙ ap (λ (l : List ℕ). laid_over l old) (map_same (take (i + 1) kept))
 
 pub rising_length : (xs : List ℕ) → length (rising xs) ≡ length xs
 unfolding rising
